@@ -1,0 +1,10 @@
+pub mod Xor
+pub mod Step
+pub mod Linear
+pub mod Bytes
+pub mod Range
+pub mod Lossless
+pub mod Run
+pub mod Burst
+pub mod Table
+pub mod Trials
