@@ -1,3 +1,4 @@
+pub mod Trials
 pub mod Xor
 pub mod Step
 pub mod Linear
@@ -7,4 +8,3 @@ pub mod Lossless
 pub mod Run
 pub mod Burst
 pub mod Table
-pub mod Trials
