@@ -1,0 +1,96 @@
+-- What a step answers, the running controller, and the numbers that C gets.
+-- Assumes nothing.
+use mathlib.Core.Path.{_≡_}
+use Prim.Native.Nat.{ℕ, _+_, _*_, _^_, _≤_}
+use mathlib.Core.Bool.{Bool}
+use mathlib.Core.List.{List, [], _∷_}
+use lib.Dec.{leb, ltb, eqb}
+use lib.ListN.{length}
+use Rattle.file_law.specs.Answer.{Answer, gives, refuses, unsound, notInTable, unless, both}
+use Rattle.file_law.specs.Table.{Running}
+use Rattle.file_law.specs.Reading.{streamIn, inputsIn, outputsIn, statesIn, blocksFor, sizesGood, Within, Sizes, sizesIn, outputsAt, nextAt, clearAt, openAnswer}
+
+-- "a length under 512, k, outputs or N outside the sizes, or a length other than the one they call for (13)"
+unfoldable pub shapeGood : List ℕ → Bool
+shapeGood f =
+    both (leb 512 (length f))
+    (both (sizesGood (inputsIn (streamIn f)) (outputsIn (streamIn f)) (statesIn (streamIn f)))
+    (eqb (length f) (512 * blocksFor (inputsIn (streamIn f)) (statesIn (streamIn f)))))
+
+-- the same as facts, by name
+pub record Shape (f : List ℕ) : Type 0 where
+  pub long : 512 ≤ length f
+  pub size : Within (inputsIn (streamIn f)) (outputsIn (streamIn f)) (statesIn (streamIn f))
+  pub exact : length f ≡ 512 * blocksFor (inputsIn (streamIn f)) (statesIn (streamIn f))
+
+unfoldable pub shapeAnswer : List ℕ → Answer Sizes
+shapeAnswer f = unless (shapeGood f) (refuses unsound 0) (gives (sizesIn (streamIn f)))
+
+-- the record that stands in a state of a stream of k inputs
+abbrev pub standsIn : (ℕ → ℕ) → ℕ → ℕ → Running
+standsIn b k state = record { state = state; outputs = outputsAt b k state }
+
+-- "state or input not in the table (14); the next state read not below N, or its spare output bits not zero (13)"
+unfoldable pub moveAnswer : (ℕ → ℕ) → ℕ → ℕ → ℕ → ℕ → ℕ → Answer Running
+moveAnswer b k o n state input =
+    unless (both (ltb state n) (ltb input (2 ^ k))) (refuses notInTable 0)
+    (unless (both (ltb (nextAt b k state input) n) (clearAt b k o (nextAt b k state input))) (refuses unsound 0)
+    (gives (standsIn b k (nextAt b k state input))))
+
+-- "A step refuses, in this order and at place 0: .. It doesn't recheck CRCs."
+unfoldable pub stepAnswer : List ℕ → ℕ → ℕ → Answer Running
+stepAnswer f state input =
+    unless (shapeGood f) (refuses unsound 0)
+    (moveAnswer (streamIn f) (inputsIn (streamIn f)) (outputsIn (streamIn f)) (statesIn (streamIn f)) state input)
+
+-- house: the outputs of a state, refused as a step is, without the input
+unfoldable pub lookAnswer : (ℕ → ℕ) → ℕ → ℕ → ℕ → ℕ → Answer Running
+lookAnswer b k o n state =
+    unless (ltb state n) (refuses notInTable 0)
+    (unless (clearAt b k o state) (refuses unsound 0)
+    (gives (standsIn b k state)))
+
+unfoldable pub outputsAnswer : List ℕ → ℕ → Answer Running
+outputsAnswer f state =
+    unless (shapeGood f) (refuses unsound 0)
+    (lookAnswer (streamIn f) (inputsIn (streamIn f)) (outputsIn (streamIn f)) (statesIn (streamIn f)) state)
+
+-- "Opening a sound file sets it to state 0 and that state's outputs."
+abbrev pub startIn : (ℕ → ℕ) → Answer Sizes → Answer Running
+startIn b (gives z) = gives (standsIn b (z .inputs) 0)
+startIn b (refuses number at) = refuses number at
+
+unfoldable pub startAnswer : List ℕ → Answer Running
+startAnswer f = startIn (streamIn f) (openAnswer f)
+
+-- "For a refusal the record stays."
+abbrev pub after : Answer Running → Running → Running
+after (gives r) c = r
+after (refuses number at) c = c
+
+-- ---- a run: opening, and then a step for each input, each from the record as it stands
+
+unfoldable pub stepsFrom : List ℕ → Running → List ℕ → List (Answer Running)
+stepsFrom f c [] = []
+stepsFrom f c (input ∷ inputs) =
+    stepAnswer f (c .state) input ∷ stepsFrom f (after (stepAnswer f (c .state) input) c) inputs
+
+unfoldable pub runAnswers : List ℕ → Running → List ℕ → List (Answer Running)
+runAnswers f c inputs = startAnswer f ∷ stepsFrom f (after (startAnswer f) c) inputs
+
+-- ---- what C gets
+
+-- "it gets a next state, or 65,536 plus the refusal number"
+abbrev pub stepCode : Answer Running → ℕ
+stepCode (gives r) = r .state
+stepCode (refuses number at) = 65536 + number
+
+-- house: outputs, or 65,536 plus the refusal number
+abbrev pub outputsCode : Answer Running → ℕ
+outputsCode (gives r) = r .outputs
+outputsCode (refuses number at) = 65536 + number
+
+-- house: the outputs of state 0, or the refusal times 2^32 plus its place
+abbrev pub openCode : Answer Running → ℕ
+openCode (gives r) = r .outputs
+openCode (refuses number at) = number * 2 ^ 32 + at
