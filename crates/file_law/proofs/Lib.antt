@@ -1,3 +1,5 @@
 pub mod Every
 pub mod Tests
+pub mod Patch
+pub mod Blocks
 pub mod Trials

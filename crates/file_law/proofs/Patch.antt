@@ -1,0 +1,30 @@
+-- Laws of `patch`, which says what a store of several bytes leaves.
+-- Assumes nothing.
+use mathlib.Core.Path.{_≡_, sym, ap, ap₂, _∙_}
+use Prim.Native.Nat.{ℕ, _+_, _≤_}
+use native.Mathlib.Omega.{arith}
+use mathlib.Core.List.{List, _++_, append-assoc}
+use lib.ListN.{length, take, drop, length-append, length-take, length-drop}
+use lib.Seq.{sets, sets-eq, take-at, drop-append-add, drop-drop}
+use Rattle.file_law.specs.Bytes.{patch}
+
+-- what straight-line stores leave
+pub sets-patch : (l : List ℕ) (at : ℕ) (v : List ℕ) → at + length v ≤ length l → sets l at v ≡ patch l at v
+unfolding patch
+sets-patch l at v h = sets-eq v l at h ∙ append-assoc (take at l) v (drop (at + length v) l)
+
+pub length-patch : (l : List ℕ) (at : ℕ) (v : List ℕ) → at + length v ≤ length l → length (patch l at v) ≡ length l
+unfolding patch
+length-patch l at v h = simp (length-append, length-take, length-drop) (omega arith)
+
+-- stores one after the other, from the front
+pub patch-next : (p l v : List ℕ) (at : ℕ) → length p ≡ at → at + length v ≤ length l → patch (p ++ drop at l) at v ≡ (p ++ v) ++ drop (at + length v) l
+unfolding patch
+patch-next p l v at e h =
+    ap₂ (λ (x y : List ℕ). x ++ (v ++ y)) (take-at p (drop at l) at e)
+    (ap (λ (k : ℕ). drop (k + length v) (p ++ drop at l)) (sym e) ∙ drop-append-add p (drop at l) (length v) ∙ drop-drop (length v) at l)
+    ∙ sym (append-assoc p v (drop (at + length v) l))
+
+pub front : (l v : List ℕ) → patch l 0 v ≡ v ++ drop (length v) l
+unfolding patch
+front l v = let e : 0 + length v ≡ length v = omega arith in ap (λ (k : ℕ). v ++ drop k l) e
