@@ -7,11 +7,8 @@ use lib.Bits.{bitXor}
 use borrow.Author.Needs.{needs}
 use Rattle.crc_law.specs.Crc.{stepBits, stepByte}
 use Rattle.crc_law.proofs.Step.{stepBits-split}
-use Rattle.crc.specs.Remainders.{Remainders}
 use Rattle.crc.proofs.next.Statement.{statement}
 use Rattle.crc.proofs.next.Tie as tie
-use Rattle.crc.proofs.next.Reads as reads
-use Rattle.crc.proofs.next.Lts as lts
 
 cast-result : tie.Need-cast-result
 cast-result c = search needs

@@ -10,9 +10,6 @@ use lib.Seq.{drop-cons}
 use Rattle.crc_law.specs.Crc.{ones, stepByte, register}
 use Rattle.crc.proofs.over.Statement.{statement}
 use Rattle.crc.proofs.over.Tie as tie
-use Rattle.crc.proofs.over.Reads as reads
-use Rattle.crc.proofs.over.Lts as lts
-use Rattle.crc.proofs.next.Reads as next-reads
 
 abbrev Inv-loop : tie.InvT-loop
 Inv-loop t s r₀ i₀ r i = (i ≤ length s) × (register r (drop i s) ≡ register ones s)
