@@ -1,14 +1,14 @@
 -- What the check is worth: a change inside four neighbouring bytes always shows, the check's own bytes included.
 -- Assumes nothing.
 use mathlib.Core.Path.{_≡_, sym, ap, ap₂, _∙_}
-use Prim.Native.Nat.{ℕ, _+_, _-_, _*_, _^_, _≤_, _<_}
+use Prim.Native.Nat.{ℕ, _+_, _-_, _*_, _^_, _<_}
 use native.Mathlib.Nat.{mod-eq-of-lt}
 use native.Mathlib.Omega.{arith}
 use mathlib.Core.List.{List, _++_}
-use lib.ListN.{length, getD, take, drop, take-append-drop, length-take, length-drop}
+use lib.ListN.{length, take, drop, take-append-drop, length-take, length-drop}
 use lib.Seq.{getD-take, getD-drop, ext-getD}
 use lib.Bits.{bitXor, bitAnd, xor-add-and, and-mask}
-use Rattle.crc_law.specs.Crc.{ones, stepBits, register, crcOf, leValue, AllBytes, Checked}
+use Rattle.crc_law.specs.Crc.{ones, stepBits, register, crcOf, AllBytes, Checked}
 use Rattle.crc_law.specs.Change.{SameOutside}
 use Rattle.crc_law.proofs.Xor.{xor-cancel}
 use Rattle.crc_law.proofs.Bytes.{bytes-take, bytes-drop}

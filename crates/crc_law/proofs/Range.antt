@@ -4,7 +4,7 @@ use Prim.Native.Nat.{ℕ, zero, suc, _*_, _/_, _%_, _^_, _<_}
 use native.Mathlib.Omega.{arith}
 use mathlib.Core.List.{List, [], _∷_}
 use lib.Bits.{bitXor, xor-lt}
-use Rattle.crc_law.specs.Crc.{poly, ones, stepBit, stepBits, stepByte, register, crcOf, AllBytes}
+use Rattle.crc_law.specs.Crc.{poly, stepBit, stepBits, stepByte, register, crcOf, AllBytes}
 
 pub stepBit-lt : (r : ℕ) → r < 2 ^ 32 → stepBit r < 2 ^ 32
 unfolding stepBit

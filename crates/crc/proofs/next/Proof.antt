@@ -1,17 +1,14 @@
 -- `crc::next` meets its contract: eight steps at once, by the table's entry and a shift.
 -- Assumes nothing.
-use mathlib.Core.Path.{_≡_, sym, ap, _∙_}
+use mathlib.Core.Path.{sym, ap, _∙_}
 use Prim.Native.Nat.{ℕ, _/_, _%_}
 use native.Mathlib.Omega.{arith}
 use lib.Bits.{bitXor}
 use borrow.Author.Needs.{needs}
-use Rattle.crc_law.specs.Crc.{stepBits, stepByte}
+use Rattle.crc_law.specs.Crc.{stepByte}
 use Rattle.crc_law.proofs.Step.{stepBits-split}
-use Rattle.crc.specs.Remainders.{Remainders}
 use Rattle.crc.proofs.next.Statement.{statement}
 use Rattle.crc.proofs.next.Tie as tie
-use Rattle.crc.proofs.next.Reads as reads
-use Rattle.crc.proofs.next.Lts as lts
 
 cast-result : tie.Need-cast-result
 cast-result c = search needs
