@@ -10,7 +10,7 @@ use Rattle.file_law.specs.Bytes.{word2, word4}
 use Rattle.file_law.specs.Table.{Row, Table, Running, clocks, tableRun}
 use Rattle.file_law.specs.File.{words, rowBytes, rowsBytes, streamOf, pieceOf, bodyOf, blockOf, blocks, fileOf}
 use Rattle.file_law.specs.Reading.{blockGood, streamIn, outputsAt, nextAt, rowsGood, contentGood, blocksAnswer, openAnswer, Sizes, tableIn}
-use Rattle.file_law.specs.Stepping.{shapeGood, moveAnswer, stepAnswer, lookAnswer, outputsAnswer, startAnswer, stepsFrom, runAnswers}
+use Rattle.file_law.specs.Stepping.{shapeGood, standAnswer, moveAnswer, stepAnswer, lookAnswer, outputsAnswer, startAnswer, stepsFrom, runAnswers}
 
 -- "Blink, complete"
 abbrev blink : Table
@@ -47,7 +47,7 @@ pub record Trials : Type 0 where
   pub run : runAnswers file (record { state = 9; outputs = 9 }) (1 ∷ 0 ∷ 2 ∷ 1 ∷ []) ≡ at 0 0 ∷ at 1 1 ∷ at 1 1 ∷ refuses 14 0 ∷ at 0 0 ∷ []
 
 pub trials : Trials
-unfolding stepBit stepBits stepByte register crcOf every firstNot listed word2 word4 words rowBytes rowsBytes streamOf pieceOf bodyOf blockOf blocks fileOf blockGood streamIn outputsAt nextAt rowsGood contentGood blocksAnswer openAnswer tableIn shapeGood moveAnswer stepAnswer lookAnswer outputsAnswer startAnswer stepsFrom runAnswers
+unfolding stepBit stepBits stepByte register crcOf every firstNot listed word2 word4 words rowBytes rowsBytes streamOf pieceOf bodyOf blockOf blocks fileOf blockGood streamIn outputsAt nextAt rowsGood contentGood blocksAnswer openAnswer tableIn shapeGood standAnswer moveAnswer stepAnswer lookAnswer outputsAnswer startAnswer stepsFrom runAnswers
 trials =
     record {
       stream = refl;

@@ -30,12 +30,16 @@ shapeAnswer f = unless (shapeGood f) (refuses unsound 0) (gives (sizesIn (stream
 abbrev pub standsIn : (ℕ → ℕ) → ℕ → ℕ → Running
 standsIn b k state = record { state = state; outputs = outputsAt b k state }
 
+-- "its spare output bits not zero (13)"
+unfoldable pub standAnswer : (ℕ → ℕ) → ℕ → ℕ → ℕ → Answer Running
+standAnswer b k o state = unless (clearAt b k o state) (refuses unsound 0) (gives (standsIn b k state))
+
 -- "state or input not in the table (14); the next state read not below N, or its spare output bits not zero (13)"
 unfoldable pub moveAnswer : (ℕ → ℕ) → ℕ → ℕ → ℕ → ℕ → ℕ → Answer Running
 moveAnswer b k o n state input =
     unless (both (ltb state n) (ltb input (2 ^ k))) (refuses notInTable 0)
-    (unless (both (ltb (nextAt b k state input) n) (clearAt b k o (nextAt b k state input))) (refuses unsound 0)
-    (gives (standsIn b k (nextAt b k state input))))
+    (unless (ltb (nextAt b k state input) n) (refuses unsound 0)
+    (standAnswer b k o (nextAt b k state input)))
 
 -- "A step refuses, in this order and at place 0: .. It doesn't recheck CRCs."
 unfoldable pub stepAnswer : List ℕ → ℕ → ℕ → Answer Running
@@ -45,10 +49,7 @@ stepAnswer f state input =
 
 -- house: the outputs of a state, refused as a step is, without the input
 unfoldable pub lookAnswer : (ℕ → ℕ) → ℕ → ℕ → ℕ → ℕ → Answer Running
-lookAnswer b k o n state =
-    unless (ltb state n) (refuses notInTable 0)
-    (unless (clearAt b k o state) (refuses unsound 0)
-    (gives (standsIn b k state)))
+lookAnswer b k o n state = unless (ltb state n) (refuses notInTable 0) (standAnswer b k o state)
 
 unfoldable pub outputsAnswer : List ℕ → ℕ → Answer Running
 outputsAnswer f state =

@@ -1,0 +1,115 @@
+-- From the answer about a file's shape to a step's answer: what the stepper's code goes by.
+-- Assumes nothing.
+use mathlib.Core.Path.{_≡_, refl, sym, ap, _∙_, subst}
+use Prim.Native.Nat.{ℕ, _*_, _^_, _≤_}
+use native.Mathlib.Omega.{arith}
+use mathlib.Core.Bool.{Bool, true, false}
+use mathlib.Core.List.{List}
+use lib.ListN.{length}
+use lib.Dec.{ltb}
+use Rattle.file_law.specs.Answer.{Answer, gives, refuses, unsound, notInTable, unless, both}
+use Rattle.file_law.specs.Table.{mostInputs, Running}
+use Rattle.file_law.specs.Reading.{streamIn, inputsIn, outputsIn, statesIn, sizesGood, blocksFor, Within, Sizes, sizesIn, nextAt, clearAt}
+use Rattle.file_law.specs.Stepping.{shapeGood, Shape, shapeAnswer, standAnswer, moveAnswer, stepAnswer, lookAnswer, outputsAnswer}
+use Rattle.file_law.proofs.Tests.{shape}
+
+-- a file of the length that the sizes k, o and n call for
+pub record Sized (f : List ℕ) (k o n : ℕ) : Type 0 where
+  pub size : Within k o n
+  pub exact : length f ≡ 512 * blocksFor k n
+
+module _ {A : Type 0} where
+  never : {a : A} {number at : ℕ} → gives a ≡ refuses number at → ⊥
+  never e = let z : _≡_ {A = ℕ} 0 1 = cc in omega arith
+
+  same : {a b : A} → gives a ≡ gives b → a ≡ b
+  same e = cc
+
+module _ (f : List ℕ) (z : Sizes) where
+  passed : (t : Bool) → shapeGood f ≡ t → gives z ≡ unless t (refuses unsound 0) (gives (sizesIn (streamIn f))) → (shapeGood f ≡ true) × (z ≡ sizesIn (streamIn f))
+  passed true e g = (e, same g)
+  passed false e g = absurd (never g)
+
+  shaped : gives z ≡ shapeAnswer f → (shapeGood f ≡ true) × (z ≡ sizesIn (streamIn f))
+  unfolding shapeAnswer
+  shaped g = passed (shapeGood f) refl g
+
+  pub sized : gives z ≡ shapeAnswer f → Sized f (z .inputs) (z .outputs) (z .states)
+  sized g =
+      let s = shape f (shaped g .0) in
+      subst (λ (y : Sizes). Sized f (y .inputs) (y .outputs) (y .states)) (sym (shaped g .1)) (record { size = s .size; exact = s .exact })
+
+  -- a test of the shape that has passed leaves what comes next, at the sizes that it gave
+  pub through : (g : Sizes → Answer Running) → gives z ≡ shapeAnswer f → unless (shapeGood f) (refuses unsound 0) (g (sizesIn (streamIn f))) ≡ g z
+  through g e = ap (λ (t : Bool). unless t (refuses unsound 0) (g (sizesIn (streamIn f)))) (shaped e .0) ∙ ap g (sym (shaped e .1))
+
+module _ (f : List ℕ) (number at : ℕ) where
+  stopped : (t : Bool) (x : Answer Running) → refuses number at ≡ unless t (refuses unsound 0) (gives (sizesIn (streamIn f))) → unless t (refuses unsound 0) x ≡ refuses number at
+  stopped true x e = absurd (never (sym e))
+  stopped false x e = let n : number ≡ unsound = cc in let p : at ≡ 0 = cc in cc
+
+  -- .. and one that has failed leaves its refusal
+  pub refused : (x : Answer Running) → refuses number at ≡ shapeAnswer f → unless (shapeGood f) (refuses unsound 0) x ≡ refuses number at
+  unfolding shapeAnswer
+  refused x e = stopped (shapeGood f) x e
+
+module _ (f : List ℕ) (state input : ℕ) where
+  pub step-given : (k o n : ℕ) → gives (record { inputs = k; outputs = o; states = n }) ≡ shapeAnswer f → stepAnswer f state input ≡ moveAnswer (streamIn f) k o n state input
+  unfolding stepAnswer
+  step-given k o n = through f (record { inputs = k; outputs = o; states = n }) (λ z. moveAnswer (streamIn f) (z .inputs) (z .outputs) (z .states) state input)
+
+  pub step-refused : (number at : ℕ) → refuses number at ≡ shapeAnswer f → stepAnswer f state input ≡ refuses number at
+  unfolding stepAnswer
+  step-refused number at = refused f number at _
+
+  pub look-given : (k o n : ℕ) → gives (record { inputs = k; outputs = o; states = n }) ≡ shapeAnswer f → outputsAnswer f state ≡ lookAnswer (streamIn f) k o n state
+  unfolding outputsAnswer
+  look-given k o n = through f (record { inputs = k; outputs = o; states = n }) (λ z. lookAnswer (streamIn f) (z .inputs) (z .outputs) (z .states) state)
+
+  pub look-refused : (number at : ℕ) → refuses number at ≡ shapeAnswer f → outputsAnswer f state ≡ refuses number at
+  unfolding outputsAnswer
+  look-refused number at = refused f number at _
+
+-- ---- a refusal's number is small, so 65,536 and it make a number of 32 bits
+
+record Small (a : Answer Running) : Type 0 where
+  bound : (number at : ℕ) → refuses number at ≡ a → number ≤ notInTable
+
+small-given : (r : Running) → Small (gives r)
+small-given r = record { bound = λ number at e. absurd (never (sym e)) }
+
+small-refused : (x y : ℕ) → x ≤ notInTable → Small (refuses x y)
+small-refused x y h = record { bound = λ number at e. let n : number ≡ x = cc in omega arith }
+
+small-unless : (t : Bool) {a b : Answer Running} → Small a → Small b → Small (unless t a b)
+small-unless true p q = q
+small-unless false p q = p
+
+unsound-small : Small (refuses unsound 0)
+unsound-small = small-refused unsound 0 (omega arith)
+
+absent-small : Small (refuses notInTable 0)
+absent-small = small-refused notInTable 0 (omega arith)
+
+module _ (b : ℕ → ℕ) (k o n : ℕ) where
+  stand-small : (state : ℕ) → Small (standAnswer b k o state)
+  unfolding standAnswer
+  stand-small state = small-unless (clearAt b k o state) unsound-small (small-given _)
+
+  move-small : (state input : ℕ) → Small (moveAnswer b k o n state input)
+  unfolding moveAnswer
+  move-small state input =
+      small-unless (both (ltb state n) (ltb input (2 ^ k))) absent-small
+      (small-unless (ltb (nextAt b k state input) n) unsound-small (stand-small (nextAt b k state input)))
+
+  look-small : (state : ℕ) → Small (lookAnswer b k o n state)
+  unfolding lookAnswer
+  look-small state = small-unless (ltb state n) absent-small (stand-small state)
+
+pub step-small : (f : List ℕ) (state input number at : ℕ) → refuses number at ≡ stepAnswer f state input → number ≤ notInTable
+unfolding stepAnswer
+step-small f state input = small-unless (shapeGood f) unsound-small (move-small (streamIn f) _ _ _ state input) .bound
+
+pub outputs-small : (f : List ℕ) (state number at : ℕ) → refuses number at ≡ outputsAnswer f state → number ≤ notInTable
+unfolding outputsAnswer
+outputs-small f state = small-unless (shapeGood f) unsound-small (look-small (streamIn f) _ _ _ state) .bound
