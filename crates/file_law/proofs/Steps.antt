@@ -1,16 +1,17 @@
 -- From the answer about a file's shape to a step's answer: what the stepper's code goes by.
 -- Assumes nothing.
 use mathlib.Core.Path.{_≡_, refl, sym, ap, _∙_, subst}
-use Prim.Native.Nat.{ℕ, _*_, _^_, _≤_}
+use Prim.Native.Nat.{ℕ, _*_, _^_, _≤_, _<_}
 use native.Mathlib.Omega.{arith}
 use mathlib.Core.Bool.{Bool, true, false}
 use mathlib.Core.List.{List}
 use lib.ListN.{length}
 use lib.Dec.{ltb}
+use borrow.Author.Tests.{lt-ltb, le-ltb}
 use Rattle.file_law.specs.Answer.{Answer, gives, refuses, unsound, notInTable, unless, both}
 use Rattle.file_law.specs.Table.{mostInputs, Running}
-use Rattle.file_law.specs.Reading.{streamIn, inputsIn, outputsIn, statesIn, sizesGood, blocksFor, Within, Sizes, sizesIn, nextAt, clearAt}
-use Rattle.file_law.specs.Stepping.{shapeGood, Shape, shapeAnswer, standAnswer, moveAnswer, stepAnswer, lookAnswer, outputsAnswer}
+use Rattle.file_law.specs.Reading.{streamIn, inputsIn, outputsIn, statesIn, sizesGood, blocksFor, Within, Sizes, sizesIn, outputsAt, nextAt, clearAt}
+use Rattle.file_law.specs.Stepping.{shapeGood, Shape, shapeAnswer, standsIn, standAnswer, moveAnswer, stepAnswer, lookAnswer, outputsAnswer}
 use Rattle.file_law.proofs.Tests.{shape}
 
 -- a file of the length that the sizes k, o and n call for
@@ -19,10 +20,10 @@ pub record Sized (f : List ℕ) (k o n : ℕ) : Type 0 where
   pub exact : length f ≡ 512 * blocksFor k n
 
 module _ {A : Type 0} where
-  never : {a : A} {number at : ℕ} → gives a ≡ refuses number at → ⊥
+  pub never : {a : A} {number at : ℕ} → gives a ≡ refuses number at → ⊥
   never e = let z : _≡_ {A = ℕ} 0 1 = cc in omega arith
 
-  same : {a b : A} → gives a ≡ gives b → a ≡ b
+  pub same : {a b : A} → gives a ≡ gives b → a ≡ b
   same e = cc
 
 module _ (f : List ℕ) (z : Sizes) where
@@ -113,3 +114,40 @@ step-small f state input = small-unless (shapeGood f) unsound-small (move-small 
 pub outputs-small : (f : List ℕ) (state number at : ℕ) → refuses number at ≡ outputsAnswer f state → number ≤ notInTable
 unfolding outputsAnswer
 outputs-small f state = small-unless (shapeGood f) unsound-small (look-small (streamIn f) _ _ _ state) .bound
+
+-- ---- one law for each outcome
+
+module _ (b : ℕ → ℕ) (k o state : ℕ) where
+  pub stand-spare : 2 ^ o ≤ outputsAt b k state → standAnswer b k o state ≡ refuses unsound 0
+  unfolding standAnswer
+  stand-spare h = simp (le-ltb _ _ h)
+
+  pub stand-clear : outputsAt b k state < 2 ^ o → standAnswer b k o state ≡ gives (standsIn b k state)
+  unfolding standAnswer
+  stand-clear h = simp (lt-ltb _ _ h)
+
+  module _ (n : ℕ) where
+    pub look-beyond : n ≤ state → lookAnswer b k o n state ≡ refuses notInTable 0
+    unfolding lookAnswer
+    look-beyond h = simp (le-ltb _ _ h)
+
+    pub look-on : state < n → lookAnswer b k o n state ≡ standAnswer b k o state
+    unfolding lookAnswer
+    look-on h = simp (lt-ltb _ _ h)
+
+    module _ (input : ℕ) where
+      pub move-no-state : n ≤ state → moveAnswer b k o n state input ≡ refuses notInTable 0
+      unfolding moveAnswer
+      move-no-state h = simp (le-ltb _ _ h)
+
+      pub move-no-input : state < n → 2 ^ k ≤ input → moveAnswer b k o n state input ≡ refuses notInTable 0
+      unfolding moveAnswer
+      move-no-input h g = simp (lt-ltb _ _ h, le-ltb _ _ g)
+
+      pub move-beyond : state < n → input < 2 ^ k → n ≤ nextAt b k state input → moveAnswer b k o n state input ≡ refuses unsound 0
+      unfolding moveAnswer
+      move-beyond h g e = simp (lt-ltb _ _ h, lt-ltb _ _ g, le-ltb _ _ e)
+
+      pub move-on : state < n → input < 2 ^ k → nextAt b k state input < n → moveAnswer b k o n state input ≡ standAnswer b k o (nextAt b k state input)
+      unfolding moveAnswer
+      move-on h g e = simp (lt-ltb _ _ h, lt-ltb _ _ g, lt-ltb _ _ e)
