@@ -2,4 +2,6 @@ pub mod Every
 pub mod Tests
 pub mod Patch
 pub mod Blocks
+pub mod Held
+pub mod Sound
 pub mod Trials
