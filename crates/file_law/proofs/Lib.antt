@@ -4,4 +4,5 @@ pub mod Patch
 pub mod Blocks
 pub mod Held
 pub mod Sound
+pub mod Runs
 pub mod Trials
