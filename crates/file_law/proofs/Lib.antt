@@ -5,4 +5,6 @@ pub mod Blocks
 pub mod Held
 pub mod Sound
 pub mod Runs
+pub mod Words
+pub mod Written
 pub mod Trials
