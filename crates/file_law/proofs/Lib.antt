@@ -7,4 +7,6 @@ pub mod Sound
 pub mod Runs
 pub mod Words
 pub mod Written
+pub mod Joined
+pub mod Round
 pub mod Trials

@@ -82,18 +82,18 @@ module _ (f : List ℕ) (z : Sizes) (accepted : openAnswer f ≡ gives z) where
   stands : (state : ℕ) → state < statesIn b → standsIn b (inputsIn b) state ≡ standing t state
   stands state h = ap (λ (x : ℕ). let r : Running = record { state = state; outputs = x } in r) (sym (outputs-in b state h))
 
-  pub sound-start : startAnswer f ≡ gives (standing t 0)
+  pub sound-start : startAnswer f ≡ gives (standing (tableIn (streamIn f)) 0)
   unfolding startAnswer
   sound-start =
       ap (startIn b) (accepted ∙ ap gives (s .sizes)) ∙ ap gives (stands 0 (s .shape .size .some))
 
-  pub sound-outputs : (state : ℕ) → state < z .states → outputsAnswer f state ≡ gives (standing t state)
+  pub sound-outputs : (state : ℕ) → state < z .states → outputsAnswer f state ≡ gives (standing (tableIn (streamIn f)) state)
   unfolding outputsAnswer lookAnswer
   sound-outputs state h =
       let g = in-states h in
       simp (shape-good (s .shape), lt-ltb state (statesIn b) g, lt-ltb (outputsAt b (inputsIn b) state) (2 ^ outputsIn b) (s .rows .clear state g)) (ap gives (stands state g))
 
-  pub sound-step : (state input : ℕ) → state < z .states → input < 2 ^ z .inputs → stepAnswer f state input ≡ gives (standing t (nextOf t state input))
+  pub sound-step : (state input : ℕ) → state < z .states → input < 2 ^ z .inputs → stepAnswer f state input ≡ gives (standing (tableIn (streamIn f)) (nextOf (tableIn (streamIn f)) state input))
   unfolding stepAnswer moveAnswer
   sound-step state input h i =
       let g = in-states h in
@@ -137,19 +137,19 @@ module _ (f : List ℕ) (z : Sizes) (accepted : openAnswer f ≡ gives z) where
           rw (le-ltb input (2 ^ inputsIn b) j) (refused-stays f c input inputs notInTable 0 (sound-refuses (c .state) input h g) ∙ ap (λ (l : List (Answer Running)). refuses notInTable 0 ∷ l) (ih c h))
 
   -- any inputs: the answers are the table's, from its start
-  pub any-sequence : (c : Running) (inputs : List ℕ) → runAnswers f c inputs ≡ gives (standing t 0) ∷ answersOf t 0 inputs
+  pub any-sequence : (c : Running) (inputs : List ℕ) → runAnswers f c inputs ≡ gives (standing (tableIn (streamIn f)) 0) ∷ answersOf (tableIn (streamIn f)) 0 inputs
   unfolding runAnswers
   any-sequence c inputs =
       ap (λ (a : Answer Running). a ∷ stepsFrom f (after a c) inputs) sound-start
       ∙ ap (λ (l : List (Answer Running)). gives (standing t 0) ∷ l) (steps (standing t 0) inputs (rw (ap (λ (x : Sizes). x .states) (s .sizes)) (s .shape .size .some)))
 
   -- inputs below 2 ^ k: never a refusal
-  pub every-sequence : (c : Running) (inputs : List ℕ) → ((j : ℕ) → getD inputs j 0 < 2 ^ z .inputs) → runAnswers f c inputs ≡ map gives (tableRun t inputs)
+  pub every-sequence : (c : Running) (inputs : List ℕ) → ((j : ℕ) → getD inputs j 0 < 2 ^ z .inputs) → runAnswers f c inputs ≡ map gives (tableRun (tableIn (streamIn f)) inputs)
   unfolding tableRun tableIn
   every-sequence c inputs h =
       any-sequence c inputs ∙ ap (λ (l : List (Answer Running)). gives (standing t 0) ∷ l) (good-answers t 0 inputs (λ j. in-inputs (h j)))
 
   -- .. and any inputs: an answer is a state of the table with its outputs, or 14
-  pub never-unsound : (c : Running) (inputs : List ℕ) (j : ℕ) → FromTable t (getD (runAnswers f c inputs) j (refuses notInTable 0))
+  pub never-unsound : (c : Running) (inputs : List ℕ) (j : ℕ) → FromTable (tableIn (streamIn f)) (getD (runAnswers f c inputs) j (refuses notInTable 0))
   never-unsound c inputs zero = rw (any-sequence c inputs) (inr (0, sound-fits f z accepted .some, refl))
   never-unsound c inputs (suc j) = rw (any-sequence c inputs) (from-table t (sound-fits f z accepted) 0 inputs (sound-fits f z accepted .some) j)

@@ -130,7 +130,7 @@ module _ (f : List ℕ) (z : Sizes) where
           let c = s .rows .exact in
           simp (le-leb 1 (length f) (omega arith), eq-eqb (length f % 512) 0 (omega (arith, s .shape .exact)), le-leb total mostBlocks (omega arith))
 
-  pub sound-fits : openAnswer f ≡ gives z → Fits (tableIn b)
+  pub sound-fits : openAnswer f ≡ gives z → Fits (tableIn (streamIn f))
   unfolding tableIn
   sound-fits e =
       let s = sound e in
