@@ -7,6 +7,8 @@ pub mod Sound
 pub mod Runs
 pub mod Words
 pub mod Written
+pub mod Listed
 pub mod Joined
 pub mod Round
+pub mod Accepted
 pub mod Trials

@@ -26,7 +26,7 @@ use Rattle.file_law.proofs.Written.{length-file, good, stream-back}
 
 length-words : (s : List ℕ) → length (words s) ≡ 2 * length s
 unfolding words
-length-words s = length-joined 0 low2 2 words (λ a l. refl) refl s (λ i h. refl) ∙ omega arith
+length-words s = length-joined low2 2 words refl (λ a l. refl) 0 s (λ i h. refl) ∙ omega arith
 
 -- the sizes of a table
 abbrev pub sizesOf : Table → Sizes
@@ -51,12 +51,12 @@ module _ (t : Table) (fits : Fits t) where
 
   length-stream : length s ≡ streamLength k n
   unfolding streamOf rowsBytes
-  length-stream = omega (arith, length-joined noRow rowBytes (rowLength k) rowsBytes (λ a l. refl) refl (t .rows) length-row)
+  length-stream = omega (arith, length-joined rowBytes (rowLength k) rowsBytes refl (λ a l. refl) noRow (t .rows) length-row)
 
   row-from : (state : ℕ) → state < n → (y : List ℕ) × (drop (rowAt k state) s ≡ rowBytes (rowOf t state) ++ y)
   unfolding streamOf rowsBytes
   row-from state h =
-      let r = part-at noRow rowBytes (rowLength k) rowsBytes (λ a l. refl) (t .rows) length-row state h in
+      let r = part-at rowBytes (rowLength k) rowsBytes refl (λ a l. refl) noRow (t .rows) length-row state h in
       (r .0, sym (drop-drop (state * rowLength k) 4 s) ∙ r .1)
 
   states-back : statesIn (bytesOf s) ≡ n
@@ -76,7 +76,7 @@ module _ (t : Table) (fits : Fits t) where
       let r = row-from state h in
       let nexts = rowOf t state .nexts in
       let l : input < length nexts = omega (arith, fits .each state h .wide) in
-      let q = part-at 0 low2 2 words (λ a l. refl) nexts (λ i h. refl) input l in
+      let q = part-at low2 2 words refl (λ a l. refl) 0 nexts (λ i h. refl) input l in
       let e : input * 2 ≡ 2 * input = omega arith in
       word2-ahead s (rowAt k state + 2 + 2 * input) (nextOf t state input) (q .0 ++ r .0) (
       sym (drop-drop (2 * input) (rowAt k state + 2) s)
