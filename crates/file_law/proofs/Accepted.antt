@@ -1,12 +1,12 @@
 -- Only written files are accepted: an accepted file of bytes is the file of the table that it holds.
 -- Assumes nothing.
-use mathlib.Core.Path.{_≡_, refl, sym, ap, ap₂, _∙_, subst}
+use mathlib.Core.Path.{_≡_, refl, sym, ap, ap₂, _∙_}
 use mathlib.Core.Logic.{_↔_}
 use mathlib.Core.Bool.{Bool, true}
-use Prim.Native.Nat.{ℕ, zero, suc, _+_, _*_, _/_, _%_, _^_, _≤_, _<_}
+use Prim.Native.Nat.{ℕ, zero, suc, _+_, _*_, _/_, _^_, _≤_, _<_}
 use native.Mathlib.Omega.{arith}
 use native.Mathlib.Decide.{decLt}
-use mathlib.Core.List.{List, [], _∷_, _++_}
+use mathlib.Core.List.{List, _∷_, _++_}
 use lib.ListN.{length, getD, take, drop, List·getD-eq-default}
 use lib.Seq.{ext-getD, getD-drop}
 use lib.Dec.{eqb}
@@ -20,7 +20,7 @@ use Rattle.file_law.specs.Reading.{blockGood, place, streamIn, inputsIn,
 use Rattle.file_law.proofs.Every.{both-left, both-right, length-listed, getD-listed}
 use Rattle.file_law.proofs.Blocks.{length-piece, piece-at}
 use Rattle.file_law.proofs.Held.{rows-in}
-use Rattle.file_law.proofs.Sound.{Sound, sound, sound-fits}
+use Rattle.file_law.proofs.Sound.{sound, sound-fits}
 use Rattle.file_law.proofs.Listed.{listed-none, listed-append, take-listed, all-listed, low2-word, low4-word}
 use Rattle.file_law.proofs.Joined.{joined-listed}
 use Rattle.file_law.proofs.Round.{sizesOf, accepted}

@@ -1,11 +1,10 @@
 -- The table that a stream holds: its rows, outputs and next states are the words of the stream.
 -- Assumes nothing.
 use mathlib.Core.Path.{_≡_, ap, _∙_}
-use Prim.Native.Nat.{ℕ, _+_, _*_, _^_, _<_}
+use Prim.Native.Nat.{ℕ, _+_, _^_, _<_}
 use native.Mathlib.Omega.{arith}
 use lib.ListN.{length, getD}
-use Rattle.file_law.specs.Answer.{listed}
-use Rattle.file_law.specs.Table.{Row, Table, noRow, rowOf, outputsOf, nextOf}
+use Rattle.file_law.specs.Table.{Row, noRow, rowOf, outputsOf, nextOf}
 use Rattle.file_law.specs.Reading.{inputsIn, statesIn, outputsAt, nextAt, rowIn, tableIn}
 use Rattle.file_law.proofs.Every.{length-listed, getD-listed}
 

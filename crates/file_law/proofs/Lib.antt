@@ -10,5 +10,6 @@ pub mod Written
 pub mod Listed
 pub mod Joined
 pub mod Round
+pub mod Bytes
 pub mod Accepted
 pub mod Trials

@@ -1,24 +1,23 @@
 -- A file written from a table within the sizes is accepted and gives that table back; two tables never share a file.
 -- Assumes nothing.
-use mathlib.Core.Path.{_≡_, refl, sym, ap, ap₂, _∙_, subst}
+use mathlib.Core.Path.{_≡_, refl, sym, ap, _∙_}
 use Prim.Native.Nat.{ℕ, _+_, _*_, _/_, _^_, _≤_, _<_}
 use native.Mathlib.Nat.{le-trans}
 use native.Mathlib.Omega.{arith}
-use mathlib.Core.Bool.{true}
-use mathlib.Core.List.{List, [], _∷_, _++_, map}
+use mathlib.Core.List.{List, _++_, map}
 use lib.ListN.{length, getD, drop, List·getD-eq-default}
 use lib.Seq.{drop-drop, drop-append-le, ext-getD}
 use lib.Pow.{pow-mono}
 use Rattle.file_law.specs.Answer.{gives}
-use Rattle.file_law.specs.Bytes.{low2, word2, bytesOf}
-use Rattle.file_law.specs.Table.{mostOutputs, Row, Table, noRow, rowOf, outputsOf, nextOf, RowFits, Fits, Running, tableRun}
+use Rattle.file_law.specs.Bytes.{low2, bytesOf}
+use Rattle.file_law.specs.Table.{Table, noRow, rowOf, outputsOf, nextOf, Fits, Running, tableRun}
 use Rattle.file_law.specs.File.{words, rowBytes, rowsBytes, streamOf, blockCount, fileOf}
-use Rattle.file_law.specs.Reading.{blockGood, streamIn, inputsIn, outputsIn, statesIn, rowLength, rowAt, streamLength, blocksFor, outputsAt, nextAt, Within, Sizes, sizesIn, openAnswer, rowIn, tableIn}
+use Rattle.file_law.specs.Reading.{streamIn, statesIn, rowLength, rowAt, streamLength, blocksFor, outputsAt, nextAt, Sizes, sizesIn, openAnswer, rowIn, tableIn}
 use Rattle.file_law.specs.Stepping.{Shape, runAnswers}
 use Rattle.file_law.proofs.Every.{length-listed}
 use Rattle.file_law.proofs.Tests.{blocks-small}
 use Rattle.file_law.proofs.Held.{rows-in, row-in, nexts-in}
-use Rattle.file_law.proofs.Sound.{Rows, Sound, opens}
+use Rattle.file_law.proofs.Sound.{Rows, opens}
 use Rattle.file_law.proofs.Runs.{every-sequence}
 use Rattle.file_law.proofs.Words.{word2-ahead}
 use Rattle.file_law.proofs.Joined.{length-joined, part-at}

@@ -1,8 +1,7 @@
 -- A sound file steps as the table that it holds: one step, and every sequence of inputs.
 -- Assumes nothing.
-use mathlib.Core.Path.{_≡_, refl, sym, ap, ap₂, _∙_, subst}
+use mathlib.Core.Path.{_≡_, refl, sym, ap, _∙_, subst}
 use mathlib.Core.Logic.{_⊎_, inl, inr}
-use mathlib.Core.Bool.{Bool, true, false}
 use Prim.Native.Nat.{ℕ, zero, suc, _^_, _≤_, _<_}
 use native.Mathlib.Omega.{arith}
 use native.Mathlib.Decide.{decLt}
@@ -10,8 +9,8 @@ use mathlib.Core.List.{List, [], _∷_, map}
 use lib.ListN.{length, getD}
 use lib.Dec.{ltb}
 use borrow.Author.Tests.{lt-ltb, le-ltb}
-use Rattle.file_law.specs.Answer.{Answer, gives, refuses, notInTable, unless, both}
-use Rattle.file_law.specs.Table.{Table, Fits, Running, outputsOf, nextOf, standing, clocks, tableRun}
+use Rattle.file_law.specs.Answer.{Answer, gives, refuses, notInTable, unless}
+use Rattle.file_law.specs.Table.{Table, Fits, Running, nextOf, standing, clocks, tableRun}
 use Rattle.file_law.specs.Reading.{streamIn, inputsIn, outputsIn, statesIn, outputsAt, nextAt, Sizes, openAnswer, tableIn}
 use Rattle.file_law.specs.Stepping.{standsIn, moveAnswer, stepAnswer, lookAnswer, outputsAnswer, startIn, startAnswer, after, stepsFrom, runAnswers}
 use Rattle.file_law.proofs.Tests.{shape-good}

@@ -1,19 +1,19 @@
 -- What the acceptance of a file says, as facts by name: it is exactly those facts, and the table that the file holds fits the sizes.
 -- Assumes nothing.
-use mathlib.Core.Path.{_≡_, refl, sym, ap, _∙_, subst}
+use mathlib.Core.Path.{_≡_, refl, sym, ap, _∙_}
 use Prim.Native.Nat.{ℕ, _+_, _-_, _*_, _/_, _%_, _^_, _≤_, _<_}
 use native.Mathlib.Omega.{arith}
 use mathlib.Core.Bool.{Bool, true, false}
 use mathlib.Core.List.{List}
-use lib.ListN.{length, getD}
-use lib.Dec.{leb, ltb, eqb}
+use lib.ListN.{length}
+use lib.Dec.{eqb}
 use borrow.Author.Tests.{ltb-true, eqb-true, lt-ltb, le-leb, eq-eqb}
-use Rattle.file_law.specs.Answer.{Answer, gives, refuses, unsound, unless, both, every, firstNot, listed}
-use Rattle.file_law.specs.Table.{Row, RowFits, Fits, rowOf}
-use Rattle.file_law.specs.Reading.{mostBlocks, lengthGood, blockGood, streamIn, inputsIn, outputsIn, statesIn, streamLength, blocksFor, outputsAt, nextAt, sizesGood, Within, clearAt, zeroAt, nextGood, nextsGood, rowsGood, contentGood, Sizes, sizesIn, blocksAnswer, openAnswer, rowIn, tableIn}
+use Rattle.file_law.specs.Answer.{Answer, gives, refuses, unsound, unless, both, every, firstNot}
+use Rattle.file_law.specs.Table.{Fits}
+use Rattle.file_law.specs.Reading.{mostBlocks, lengthGood, blockGood, streamIn, inputsIn, outputsIn, statesIn, streamLength, blocksFor, outputsAt, nextAt, sizesGood, clearAt, zeroAt, nextGood, nextsGood, rowsGood, contentGood, Sizes, sizesIn, blocksAnswer, openAnswer, tableIn}
 use Rattle.file_law.specs.Stepping.{Shape}
 use Rattle.file_law.proofs.Every.{both-left, both-right, every-at, every-all, length-listed}
-use Rattle.file_law.proofs.Tests.{within, sizes-good, Whole, whole, blocks-small}
+use Rattle.file_law.proofs.Tests.{within, sizes-good, whole, blocks-small}
 use Rattle.file_law.proofs.Held.{rows-in, row-in, nexts-in}
 
 -- ---- the content of the stream

@@ -1,10 +1,10 @@
 -- Numbers as bytes and back: two bytes hold a number below 65536, four one below 2 ^ 32.
 -- Assumes nothing.
-use mathlib.Core.Path.{_≡_, refl, sym, ap, ap₂, _∙_}
-use Prim.Native.Nat.{ℕ, zero, suc, _+_, _*_, _/_, _%_, _^_, _<_}
+use mathlib.Core.Path.{_≡_, sym, ap, ap₂, _∙_}
+use Prim.Native.Nat.{ℕ, _+_, _*_, _/_, _%_, _^_, _<_}
 use native.Mathlib.Omega.{arith}
-use mathlib.Core.List.{List, [], _∷_, _++_}
-use lib.ListN.{length, getD, drop}
+use mathlib.Core.List.{List, _++_}
+use lib.ListN.{getD, drop}
 use lib.Seq.{getD-drop}
 use lib.Pow.{shr-shr}
 use Rattle.file_law.specs.Bytes.{low2, low4, word2, word4, bytesOf}

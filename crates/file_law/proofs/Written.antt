@@ -1,20 +1,20 @@
 -- A written file, read: each block has the right number, total and check, and the stream comes back.
 -- Assumes nothing.
-use mathlib.Core.Path.{_≡_, refl, sym, ap, ap₂, _∙_, fun-ext}
-use Prim.Native.Nat.{ℕ, zero, suc, _+_, _*_, _/_, _%_, _^_, _≤_, _<_}
+use mathlib.Core.Path.{_≡_, sym, ap, _∙_, fun-ext}
+use Prim.Native.Nat.{ℕ, zero, suc, _+_, _*_, _/_, _%_, _≤_, _<_}
 use native.Mathlib.Omega.{arith}
 use native.Mathlib.Decide.{decLt}
 use mathlib.Core.Bool.{true}
-use mathlib.Core.List.{List, [], _∷_, _++_, append-assoc, append-nil}
+use mathlib.Core.List.{List, [], _++_, append-assoc, append-nil}
 use lib.ListN.{length, getD, take, drop, List·getD-append, List·getD-eq-default}
-use lib.Seq.{getD-drop, drop-at, drop-drop, take-at, getD-append-add}
+use lib.Seq.{getD-drop, drop-at, drop-drop, take-at}
 use borrow.Author.Tests.{eq-eqb}
 use Rattle.crc_law.specs.Crc.{crcOf}
 use Rattle.crc_law.proofs.Range.{crc-lt}
-use Rattle.file_law.specs.Bytes.{low2, low4, word2, word4, bytesOf}
+use Rattle.file_law.specs.Bytes.{low2, low4, bytesOf}
 use Rattle.file_law.specs.File.{pieceOf, bodyOf, blockOf, blocks, blockCount, fileOf}
 use Rattle.file_law.specs.Reading.{blockGood, place, streamIn}
-use Rattle.file_law.proofs.Blocks.{length-piece, piece-at, length-body, length-block, length-blocks}
+use Rattle.file_law.proofs.Blocks.{length-piece, piece-at, length-body, length-blocks}
 use Rattle.file_law.proofs.Words.{word2-ahead, word4-ahead}
 
 -- the rest of the file from block n on begins with block n
