@@ -3,4 +3,14 @@ pub mod Tests
 pub mod Patch
 pub mod Blocks
 pub mod Steps
+pub mod Held
+pub mod Sound
+pub mod Runs
+pub mod Words
+pub mod Written
+pub mod Listed
+pub mod Joined
+pub mod Round
+pub mod Bytes
+pub mod Accepted
 pub mod Trials
