@@ -11,7 +11,7 @@ use borrow.Author.Tests.{le-leb, lt-leb, eqb-true, eqb-false, eq-eqb, ne-eqb}
 use Rattle.file_law.specs.Answer.{Answer, gives, refuses, unsound, unless, both, every}
 use Rattle.file_law.specs.Reading.{lengthGood, streamIn, inputsIn, outputsIn, statesIn, sizesGood, blocksFor, streamLength, clearAt, zeroAt, nextsGood, rowsGood, contentGood, Within, Sizes, sizesIn}
 use Rattle.file_law.specs.Stepping.{shapeGood, Shape, shapeAnswer}
-use Rattle.file_law.proofs.Tests.{Whole, whole, shape}
+use Rattle.file_law.proofs.Tests.{Whole, whole, shape, sizes-good}
 
 -- the sizes that a file states
 pub record Stated (f : List ℕ) (k o n : ℕ) : Type 0 where
@@ -108,5 +108,8 @@ module _ (f : List ℕ) (w : lengthGood (length f) ≡ true) where
   pub content-unshaped : shapeGood f ≡ false → contentGood (streamIn f) (length f / 512) ≡ false
   content-unshaped e = content ∙ ap (λ (g : Bool). both g (rest (inputsIn (streamIn f)) (outputsIn (streamIn f)) (statesIn (streamIn f)))) e
 
-  pub content-shaped : {k o n : ℕ} → Shaped f k o n → contentGood (streamIn f) (length f / 512) ≡ rest k o n
-  content-shaped s = content ∙ simp (s .good, s .stated .inputs, s .stated .outputs, s .stated .states)
+  pub content-shaped : {k o n : ℕ} → Shaped f k o n → contentGood (streamIn f) (length f / 512) ≡ rowsGood (streamIn f) (blocksFor k n) k o n
+  unfolding contentGood
+  content-shaped {k} {o} {n} s =
+      let t : length f / 512 ≡ blocksFor k n = omega (arith, s .exact) in
+      simp (t, sym (s .stated .inputs), sym (s .stated .outputs), sym (s .stated .states), sizes-good (s .size))

@@ -33,16 +33,16 @@ shape-spec =
     tie.close
     (tie.spec
     (λ c κs. search needs)
-    (λ c. ap meaning (c .unsound .ensures) ∙ too-short _ (c .before .if1 .taken))
+    (λ c. ap meaning (c .refused .ensures) ∙ too-short _ (c .before .if1 .taken))
     (λ c κs. search needs)
     (λ c κs. search needs)
     (λ c κs. search needs)
     (λ c κs. search needs)
     (λ c κs. search needs)
-    (λ c. ap meaning (c .unsound2 .ensures) ∙ odd-sizes (stated (c .before .before .before)) (c .before .before .before .before .before .before .if1 .left) (sym (c .before .before .sizes-good .ensures) ∙ not-true _ (c .before .if2 .taken)))
+    (λ c. ap meaning (c .refused2 .ensures) ∙ odd-sizes (stated (c .before .before .before)) (c .before .before .before .before .before .before .if1 .left) (sym (c .before .before .sizes-good .ensures) ∙ not-true _ (c .before .if2 .taken)))
     blocks-for-requires
     (λ c. search needs)
     (λ c. search needs)
     (λ c κs. search needs)
-    (λ c. ap meaning (c .unsound3 .ensures) ∙ odd-length (stated (c .before .before .before .before .before)) (c .before .before .before .before .before .before .before .before .if1 .left) (good (c .before .before .before)) (λ e. c .before .if3 .taken (e ∙ sym (ap (λ (x : ℕ). 512 * x) (c .before .before .blocks-for .ensures .0)))))
+    (λ c. ap meaning (c .refused3 .ensures) ∙ odd-length (stated (c .before .before .before .before .before)) (c .before .before .before .before .before .before .before .before .if1 .left) (good (c .before .before .before)) (λ e. c .before .if3 .taken (e ∙ sym (ap (λ (x : ℕ). 512 * x) (c .before .before .blocks-for .ensures .0)))))
     (λ c. sound (stated (c .before .before .before .before)) (c .before .before .before .before .before .before .before .if1 .left) (good (c .before .before)) (c .if3 .left ∙ ap (λ (x : ℕ). 512 * x) (c .before .blocks-for .ensures .0))))
