@@ -1,5 +1,6 @@
 pub mod Every
 pub mod Tests
+pub mod Content
 pub mod Patch
 pub mod Blocks
 pub mod Steps

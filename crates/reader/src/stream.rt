@@ -1,0 +1,32 @@
+// Words of the stream where they stand in the file.
+ghost use mathlib.Core.Path.{_≡_};
+ghost use Prim.Native.Nat.{_+_, _*_, _^_, _≤_, _<_};
+ghost use lib.ListN.{length};
+ghost use Rattle.file_law.specs.Table.{mostInputs, mostStates};
+ghost use Rattle.file_law.specs.Reading.{place, streamIn, rowAt, outputsAt, nextAt};
+use crate::bytes;
+use crate::sizes;
+
+// Where byte j of the stream stands: past eight bytes for each whole block before it, and its own block's four.
+pub fn place_of(j: u32) -> usize
+    requires { ⌜ j < 65536 ⌝ }
+    ensures { λ r. ⌜ r ≡ place j ⌝ }
+{
+    (j + 8 * (j / 504) + 4) as usize
+}
+
+// The outputs of a state.
+pub fn outputs_at(file: &[u8], k: u32, state: u32) -> u32
+    requires { ⌜ (k ≤ mostInputs) × (state < mostStates) × (place (rowAt k state) + 2 ≤ length (now file)) ⌝ }
+    ensures { λ r. ⌜ (r ≡ outputsAt (streamIn (now (file .entry))) k state) × (r < 65536) ⌝ }
+{
+    bytes::word(file, place_of(sizes::row_at(k, state)))
+}
+
+// The next state that the stream names for a state and an input.
+pub fn next_at(file: &[u8], k: u32, state: u32, input: u32) -> u32
+    requires { ⌜ (k ≤ mostInputs) × (state < mostStates) × (input < 2 ^ k) × (place (rowAt k state + 2 + 2 * input) + 2 ≤ length (now file)) ⌝ }
+    ensures { λ r. ⌜ (r ≡ nextAt (streamIn (now (file .entry))) k state input) × (r < 65536) ⌝ }
+{
+    bytes::word(file, place_of(sizes::row_at(k, state) + 2 + 2 * input))
+}
