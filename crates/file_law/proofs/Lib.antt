@@ -2,4 +2,5 @@ pub mod Every
 pub mod Tests
 pub mod Patch
 pub mod Blocks
+pub mod Written
 pub mod Trials

@@ -60,10 +60,10 @@ fn fill_block(block: &mut [u8], number: u16, total: u16, rest: &[u8])
 pub fn write_block(file: &mut [u8], number: u16, total: u16, rest: &[u8])
     ensures { λ _. ⌜ now (file .exit) ≡ withBlock (now (file .entry)) number total (now (rest .entry)) ⌝ }
 {
-    let a = 512 * (number as usize);
-    let e = a + 512;
-    if file.len() < e {
+    let start = 512 * (number as usize);
+    let end = start + 512;
+    if file.len() < end {
         return;
     }
-    fill_block(&mut file[a..e], number, total, rest);
+    fill_block(&mut file[start..end], number, total, rest);
 }

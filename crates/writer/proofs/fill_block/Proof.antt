@@ -1,8 +1,7 @@
 -- `writer::fill_block` meets its contract: the stores in turn make the block.
 -- Assumes nothing.
-use mathlib.Core.Path.{sym}
 use native.Mathlib.Omega.{arith}
-use lib.Seq.{length-take-le}
+use lib.ListN.{length-take}
 use borrow.Author.Needs.{needs}
 use Rattle.file_law.proofs.Blocks.{built}
 use Rattle.writer.proofs.fill_block.Statement.{statement}
@@ -21,7 +20,7 @@ slice-reshare-prefix-crc : tie.Need-slice-reshare-prefix-crc
 slice-reshare-prefix-crc c = search needs
 
 slice-aggregate-crc : tie.Need-slice-aggregate-crc
-slice-aggregate-crc c = sym (length-take-le 508 (c .before .before .before .put-piece .last .0) (omega arith))
+slice-aggregate-crc c = simp length-take (omega arith)
 
 crc-requires : tie.Need-crc-requires
 crc-requires c κs = search needs
