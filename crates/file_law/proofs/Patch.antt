@@ -26,6 +26,16 @@ patch-next p l v at e h =
     (ap (λ (k : ℕ). drop (k + length v) (p ++ drop at l)) (sym e) ∙ drop-append-add p (drop at l) (length v) ∙ drop-drop (length v) at l)
     ∙ sym (append-assoc p v (drop (at + length v) l))
 
+-- .. and anywhere: two, the second where the first ends, are one
+pub patch-both : (l : List ℕ) (at : ℕ) (v w : List ℕ) → at + length v + length w ≤ length l → patch (patch l at v) (at + length v) w ≡ patch l at (v ++ w)
+unfolding patch
+patch-both l at v w h =
+    let e : at + length v + length w ≡ at + length (v ++ w) = simp length-append (omega arith) in
+    ap (λ (x : List ℕ). patch x (at + length v) w) (sym (append-assoc (take at l) v (drop (at + length v) l)))
+    ∙ patch-next (take at l ++ v) l w (at + length v) (simp length-append (omega (arith, length-take-le at l (omega arith)))) h
+    ∙ ap (λ (k : ℕ). (take at l ++ v) ++ w ++ drop k l) e
+    ∙ simp append-assoc
+
 pub front : (l v : List ℕ) → patch l 0 v ≡ v ++ drop (length v) l
 unfolding patch
 front l v = let e : 0 + length v ≡ length v = omega arith in ap (λ (k : ℕ). v ++ drop k l) e

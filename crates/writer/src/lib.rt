@@ -19,10 +19,8 @@ fn put_low4(block: &mut [u8], at: usize, n: u32)
     requires { ⌜ at + 4 ≤ length (now block) ⌝ }
     ensures { λ _. ⌜ now (block .exit) ≡ patch (now (block .entry)) at (low4 n) ⌝ }
 {
-    block[at] = (n % 256) as u8;
-    block[at + 1] = (n / 256 % 256) as u8;
-    block[at + 2] = (n / 65536 % 256) as u8;
-    block[at + 3] = (n / 16777216 % 256) as u8;
+    put_low2(block, at, (n % 65536) as u16);
+    put_low2(block, at + 2, (n / 65536) as u16);
 }
 
 // The byte at `i`, and 0 past the end: the filling of the last piece.
