@@ -3,6 +3,7 @@ pub mod Tests
 pub mod Content
 pub mod Patch
 pub mod Blocks
+pub mod Lent
 pub mod Steps
 pub mod Held
 pub mod Sound
