@@ -3,7 +3,6 @@ ghost use mathlib.Core.Path.{_≡_};
 ghost use Rattle.file_law.specs.Stepping.{stepAnswer, startAnswer, after};
 ghost use Rattle.stepper.specs.Meaning.{meaning};
 ghost use Rattle.controller.specs.Record.{running, Took};
-
 use stepper::Stands;
 
 pub struct Controller {
@@ -16,11 +15,11 @@ pub fn moved(c: Controller, r: Stands) -> Controller
     ensures { λ x. ⌜ running x ≡ after (meaning r) (running c) ⌝ }
 {
     match r {
-        Stands::At { state, outputs } => Controller {
-            state,
-            outputs,
-        },
-        Stands::Refused { number: _, place: _ } => c,
+        Stands::At { state, outputs } => Controller { state, outputs },
+        Stands::Refused {
+            number: _,
+            place: _,
+        } => c,
     }
 }
 

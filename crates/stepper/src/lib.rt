@@ -5,28 +5,18 @@ ghost use Rattle.file_law.specs.Reading.{streamIn};
 ghost use Rattle.file_law.specs.Stepping.{standAnswer, moveAnswer, stepAnswer, lookAnswer, outputsAnswer, startAnswer, stepCode, outputsCode, openCode};
 ghost use Rattle.file_law.proofs.Steps.{Sized};
 ghost use Rattle.stepper.specs.Meaning.{meaning};
-
 use reader::Opened;
 
 // Where the controller stands, with its outputs, or a refusal with its number and place.
 pub enum Stands {
-    At {
-        state: u32,
-        outputs: u32,
-    },
-    Refused {
-        number: u32,
-        place: u32,
-    },
+    At { state: u32, outputs: u32 },
+    Refused { number: u32, place: u32 },
 }
 
 fn refused(number: u32) -> Stands
     ensures { λ r. ⌜ r ≡ Stands.Refused number 0 ⌝ }
 {
-    Stands::Refused {
-        number,
-        place: 0,
-    }
+    Stands::Refused { number, place: 0 }
 }
 
 // A state of the table with its outputs, unless a spare bit of them is set.
@@ -38,10 +28,7 @@ fn stand_in(file: &[u8], k: u32, o: u32, n: u32, state: u32) -> Stands
     if reader::pow2(o) <= outputs {
         return refused(13);
     }
-    Stands::At {
-        state,
-        outputs,
-    }
+    Stands::At { state, outputs }
 }
 
 // The step of a file that has the length which its sizes call for.
@@ -79,13 +66,12 @@ pub fn step(file: &[u8], state: u32, input: u32) -> Stands
 {
     let shape = reader::shape(file);
     match shape {
-        Opened::Sound { inputs, outputs, states } => {
-            move_in(file, inputs, outputs, states, state, input)
-        }
-        Opened::Refused { number, place } => Stands::Refused {
-            number,
-            place,
-        },
+        Opened::Sound {
+            inputs,
+            outputs,
+            states,
+        } => { move_in(file, inputs, outputs, states, state, input) }
+        Opened::Refused { number, place } => Stands::Refused { number, place },
     }
 }
 
@@ -95,11 +81,12 @@ pub fn outputs(file: &[u8], state: u32) -> Stands
 {
     let shape = reader::shape(file);
     match shape {
-        Opened::Sound { inputs, outputs, states } => look_in(file, inputs, outputs, states, state),
-        Opened::Refused { number, place } => Stands::Refused {
-            number,
-            place,
-        },
+        Opened::Sound {
+            inputs,
+            outputs,
+            states,
+        } => look_in(file, inputs, outputs, states, state),
+        Opened::Refused { number, place } => Stands::Refused { number, place },
     }
 }
 
@@ -109,14 +96,15 @@ pub fn start(file: &[u8]) -> Stands
 {
     let opened = reader::open(file);
     match opened {
-        Opened::Sound { inputs, outputs: _, states: _ } => Stands::At {
+        Opened::Sound {
+            inputs,
+            outputs: _,
+            states: _,
+        } => Stands::At {
             state: 0,
             outputs: reader::outputs_at(file, inputs, 0),
         },
-        Opened::Refused { number, place } => Stands::Refused {
-            number,
-            place,
-        },
+        Opened::Refused { number, place } => Stands::Refused { number, place },
     }
 }
 

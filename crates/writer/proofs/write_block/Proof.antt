@@ -11,7 +11,7 @@ use borrow.Rule.Slice.PartMut.{putMid}
 use Rattle.file_law.specs.Bytes.{patch}
 use Rattle.file_law.specs.File.{blockOf}
 use Rattle.file_law.proofs.Blocks.{length-block}
-use Rattle.file_law.proofs.Written.{with-room, without-room}
+use Rattle.file_law.proofs.Lent.{with-room, without-room}
 use Rattle.writer.proofs.write_block.Statement.{statement}
 use Rattle.writer.proofs.write_block.Tie as tie
 
