@@ -96,9 +96,9 @@ uint32_t agree_step(uint32_t state, uint32_t input)
 {
     uint32_t library = windnadel_step(lent, lent_length, state, input);
     uint32_t second = second_step(lent, lent_length, state, input);
-    char call[64];
     steps++;
     if (library != second) {
+        char call[64];
         snprintf(call, sizeof call, "step from state %" PRIu32 " with input %" PRIu32, state, input);
         differ(call, library, second);
     }
@@ -109,9 +109,9 @@ uint32_t agree_outputs(uint32_t state)
 {
     uint32_t library = windnadel_outputs(lent, lent_length, state);
     uint32_t second = second_outputs(lent, lent_length, state);
-    char call[64];
     outputs++;
     if (library != second) {
+        char call[64];
         snprintf(call, sizeof call, "outputs of state %" PRIu32, state);
         differ(call, library, second);
     }

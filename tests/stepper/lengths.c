@@ -10,6 +10,17 @@
 static struct table t;
 static uint8_t file[FILE_ROOM], copy[FILE_ROOM];
 
+/* A bad last block is named only where the length is one that a file can have. */
+static void last_block_bad(size_t len)
+{
+    size_t blocks = len / BLOCK;
+    if (blocks == 0)
+        return;
+    copy[blocks * BLOCK - 1] ^= 1;
+    lend(copy, len, 0);
+    expect(agree_open(), UNSOUND(len % BLOCK == 0 && blocks <= MOST_BLOCKS ? blocks - 1 : 0));
+}
+
 /* The first len bytes as they are, and with numbers, totals and checks made right for len. */
 static void at_length(size_t len, size_t right)
 {
@@ -24,6 +35,7 @@ static void at_length(size_t len, size_t right)
         expect(agree_outputs(0), 65549);
     }
     agree_edges();
+    last_block_bad(len);
 }
 
 static void every_length(uint32_t inputs, uint32_t outputs, uint32_t states, uint8_t beyond)
