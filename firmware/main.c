@@ -19,7 +19,7 @@ static int opened(const char *name, const uint8_t *file, size_t len)
     return 1;
 }
 
-/* One clock: the next state, or the old one where the step is refused. */
+/* One clock: the next state, whose outputs are then never refused, or the old one where the step is. */
 static uint32_t clocked(const char *name, const uint8_t *file, size_t len, uint32_t state, uint32_t input)
 {
     uint32_t next = windnadel_step(file, len, state, input);
