@@ -1,0 +1,124 @@
+/*
+ * Windnadel: a controller run from a table file.
+ *
+ * A table file holds 1 to 67 blocks of 512 bytes. Firmware keeps it as plain
+ * bytes, in flash or in memory, and keeps one number, the state:
+ *
+ *     windnadel_open      once, before the first step; the state is then 0
+ *     windnadel_step      once a clock, with that clock's inputs
+ *     windnadel_outputs   the outputs that belong to a state
+ *
+ * Inputs and outputs are numbers by bits: the first declared is bit 0.
+ *
+ * All three calls:
+ * - read file[0] to file[len - 1] at most and write nothing, so the file may
+ *   lie in read-only memory; it needs no alignment;
+ * - answer for any bytes, any length and any numbers: nothing is required of a
+ *   file before it is handed in, but that its len bytes can be read;
+ * - take len 0 too: file is then not read and may be NULL;
+ * - keep nothing between calls and wait for nothing, so any thread or interrupt
+ *   may call them at any time, as long as nobody changes the file meanwhile.
+ */
+#ifndef WINDNADEL_H
+#define WINDNADEL_H
+
+#include <stddef.h>
+#include <stdint.h>
+
+#ifdef __cplusplus
+extern "C" {
+#endif
+
+/* Answers of step and outputs from here on are refusals. */
+#define WINDNADEL_REFUSED 65536u
+
+/* Refusals: the table file is not sound; the state or the input is not in its table. */
+#define WINDNADEL_NOT_SOUND 13u
+#define WINDNADEL_NOT_IN_TABLE 14u
+
+/* Bytes in a block, and in the largest file. */
+#define WINDNADEL_BLOCK 512u
+#define WINDNADEL_LARGEST_FILE (67u * WINDNADEL_BLOCK)
+
+/*
+ * Reads the whole file and answers the outputs of state 0 (0 to 65,535) where
+ * it is sound. Otherwise it answers refusal * 2^32 + place, and the refusal is
+ * always 13. The first of these that holds decides:
+ * - len is 0, not a multiple of 512, or above 67 * 512: place 0;
+ * - a block has a wrong number, a wrong count of blocks or a wrong check: the
+ *   place is the position of the first such block, counted from 0;
+ * - more than 6 inputs, more than 16 outputs, or a count of states that is not
+ *   1 to 256; more or fewer blocks than these sizes call for; in some state an
+ *   output bit that the file has no output for; a byte that is not zero after
+ *   the table's end; a next state that is not in the table: place 0.
+ * All else is accepted. Outputs are below 65,536 and a refusal is at least
+ * 13 * 2^32, so the two can't be confused; windnadel_open_refused tells them apart.
+ */
+uint64_t windnadel_open(const uint8_t *file, size_t len);
+
+/*
+ * Answers the next state (0 to 255) for a state and the inputs of one clock, or
+ * 65,536 + refusal. The first of these that holds decides:
+ * - 65,549 (refusal 13): len is below 512; more than 6 inputs, more than 16
+ *   outputs, or a count of states that is not 1 to 256; or len is not exactly
+ *   the length that these sizes call for;
+ * - 65,550 (refusal 14): the file has no such state, or no such input: the input
+ *   is 2^inputs or more;
+ * - 65,549 (refusal 13): the next state found is not in the table, or its
+ *   outputs have a bit that the file has no output for.
+ * The blocks' checks are not computed again: windnadel_open did that. From a
+ * file that it accepted, a state in the table and an input below 2^inputs are
+ * never refused. After a refusal firmware goes on with the state it has.
+ */
+uint32_t windnadel_step(const uint8_t *file, size_t len, uint32_t state, uint32_t input);
+
+/*
+ * Answers the outputs of a state (0 to 65,535), or 65,536 + refusal. The first
+ * of these that holds decides:
+ * - 65,549 (refusal 13): the length and the sizes, as for windnadel_step;
+ * - 65,550 (refusal 14): the file has no such state;
+ * - 65,549 (refusal 13): the outputs have a bit that the file has no output for.
+ */
+uint32_t windnadel_outputs(const uint8_t *file, size_t len, uint32_t state);
+
+/* Is this answer of step or outputs a refusal? */
+static inline int windnadel_refused(uint32_t answer)
+{
+    return answer >= WINDNADEL_REFUSED;
+}
+
+/* The refusal in an answer of step or outputs; 0 where it is none. */
+static inline uint32_t windnadel_refusal(uint32_t answer)
+{
+    return answer >= WINDNADEL_REFUSED ? answer - WINDNADEL_REFUSED : 0u;
+}
+
+/* Is this answer of open a refusal? */
+static inline int windnadel_open_refused(uint64_t answer)
+{
+    return (answer >> 32) != 0u;
+}
+
+/* The refusal in an answer of open; 0 where it is none. */
+static inline uint32_t windnadel_open_refusal(uint64_t answer)
+{
+    return (uint32_t)(answer >> 32);
+}
+
+/* The place in an answer of open that is a refusal: a block's position, or 0. */
+static inline uint32_t windnadel_open_place(uint64_t answer)
+{
+    return (uint32_t)(answer & 0xFFFFFFFFu);
+}
+
+/* The outputs of state 0 in an answer of open that is no refusal. */
+static inline uint32_t windnadel_open_outputs(uint64_t answer)
+{
+    return (uint32_t)(answer & 0xFFFFu);
+}
+
+#ifdef __cplusplus
+}
+#endif
+
+#endif
