@@ -2,13 +2,13 @@ pub mod Every
 pub mod Tests
 pub mod Patch
 pub mod Blocks
+pub mod Words
+pub mod Listed
+pub mod Joined
 pub mod Held
 pub mod Sound
 pub mod Runs
-pub mod Words
 pub mod Written
-pub mod Listed
-pub mod Joined
 pub mod Round
 pub mod Bytes
 pub mod Accepted
