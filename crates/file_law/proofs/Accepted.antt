@@ -21,7 +21,7 @@ use Rattle.file_law.proofs.Every.{both-left, both-right, length-listed,
 use Rattle.file_law.proofs.Blocks.{length-piece, piece-at}
 use Rattle.file_law.proofs.Held.{rows-in}
 use Rattle.file_law.proofs.Sound.{sound, sound-fits}
-use Rattle.file_law.proofs.Listed.{listed-none, listed-append, take-listed, all-listed, low2-word, low4-word}
+use Rattle.file_law.proofs.Listed.{listed-none, listed-at, listed-append, take-listed, all-listed, low2-word, low4-word}
 use Rattle.file_law.proofs.Joined.{joined-listed}
 use Rattle.file_law.proofs.Round.{sizesOf, accepted}
 
@@ -123,7 +123,7 @@ module _ (f : List ℕ) (bytes : AllBytes f) (z : Sizes) (e : openAnswer f ≡ g
   stream-same j h = at (decLt j size)
     where
       at : Dec (j < size) → getD s j 0 ≡ b j
-      at (yes l) = let o : 0 + j ≡ j = omega arith in ap (λ (x : List ℕ). getD x j 0) held ∙ getD-listed b size 0 0 j l ∙ ap b o
+      at (yes l) = ap (λ (x : List ℕ). getD x j 0) held ∙ listed-at b size 0 j l
       at (no l) = List·getD-eq-default s 0 (omega (arith, length-held)) ∙ sym (sound f z e .rows .filled j (omega arith) h)
 
   piece-same : (n : ℕ) → n < total → pieceOf (drop (504 * n) s) ≡ listed (bytesOf f) 504 (512 * n + 4)

@@ -48,17 +48,16 @@ from-table t fits state (input ∷ inputs) h j = at (decLt input (2 ^ t .inputs)
     at (no i) zero ih = rw (le-ltb input (2 ^ t .inputs) (omega arith)) (inl refl)
     at (no i) (suc j) ih = rw (le-ltb input (2 ^ t .inputs) (omega arith)) (ih state h j)
 
--- ---- what a refusal leaves
+-- ---- one step of a run, and what a refusal leaves
 
-pub refused-stays : (f : List ℕ) (c : Running) (input : ℕ) (inputs : List ℕ) (number at : ℕ) → stepAnswer f (c .state) input ≡ refuses number at
+one-step : (f : List ℕ) (c : Running) (input : ℕ) (inputs : List ℕ) {a : Answer Running} → stepAnswer f (c .state) input ≡ a
+    → stepsFrom f c (input ∷ inputs) ≡ a ∷ stepsFrom f (after a c) inputs
+unfolding stepsFrom
+one-step f c input inputs e = ap (λ (x : Answer Running). x ∷ stepsFrom f (after x c) inputs) e
+
+pub refused-stays : (f : List ℕ) (c : Running) (input : ℕ) (inputs : List ℕ) {number at : ℕ} → stepAnswer f (c .state) input ≡ refuses number at
     → stepsFrom f c (input ∷ inputs) ≡ refuses number at ∷ stepsFrom f c inputs
-unfolding stepsFrom
-refused-stays f c input inputs number at e = ap (λ (a : Answer Running). a ∷ stepsFrom f (after a c) inputs) e
-
-given-moves : (f : List ℕ) (c r : Running) (input : ℕ) (inputs : List ℕ) → stepAnswer f (c .state) input ≡ gives r
-    → stepsFrom f c (input ∷ inputs) ≡ gives r ∷ stepsFrom f r inputs
-unfolding stepsFrom
-given-moves f c r input inputs e = ap (λ (a : Answer Running). a ∷ stepsFrom f (after a c) inputs) e
+refused-stays f c input inputs e = one-step f c input inputs e
 
 -- ---- a sound file
 
@@ -129,11 +128,11 @@ module _ (f : List ℕ) (z : Sizes) (accepted : openAnswer f ≡ gives z) where
           → stepsFrom f c (input ∷ inputs) ≡ answersOf t (c .state) (input ∷ inputs)
       at (yes i) ih =
           let r = standing t (nextOf t (c .state) input) in
-          rw (lt-ltb input (2 ^ inputsIn b) (in-inputs i)) (given-moves f c r input inputs (sound-step (c .state) input h i) ∙ ap (λ (l : List (Answer Running)). gives r ∷ l) (ih r (next-below (c .state) input h i)))
+          rw (lt-ltb input (2 ^ inputsIn b) (in-inputs i)) (one-step f c input inputs (sound-step (c .state) input h i) ∙ ap (λ (l : List (Answer Running)). gives r ∷ l) (ih r (next-below (c .state) input h i)))
       at (no i) ih =
           let g : 2 ^ z .inputs ≤ input = omega arith in
           let j = subst (λ (x : Sizes). 2 ^ x .inputs ≤ input) (s .sizes) g in
-          rw (le-ltb input (2 ^ inputsIn b) j) (refused-stays f c input inputs notInTable 0 (sound-refuses (c .state) input h g) ∙ ap (λ (l : List (Answer Running)). refuses notInTable 0 ∷ l) (ih c h))
+          rw (le-ltb input (2 ^ inputsIn b) j) (one-step f c input inputs (sound-refuses (c .state) input h g) ∙ ap (λ (l : List (Answer Running)). refuses notInTable 0 ∷ l) (ih c h))
 
   -- any inputs: the answers are the table's, from its start
   pub any-sequence : (c : Running) (inputs : List ℕ) → runAnswers f c inputs ≡ gives (standing (tableIn (streamIn f)) 0) ∷ answersOf (tableIn (streamIn f)) 0 inputs
@@ -148,7 +147,7 @@ module _ (f : List ℕ) (z : Sizes) (accepted : openAnswer f ≡ gives z) where
   every-sequence c inputs h =
       any-sequence c inputs ∙ ap (λ (l : List (Answer Running)). gives (standing t 0) ∷ l) (good-answers t 0 inputs (λ j. in-inputs (h j)))
 
-  -- .. and any inputs: an answer is a state of the table with its outputs, or 14
+  -- any inputs: an answer is a state of the table with its outputs, or 14
   pub never-unsound : (c : Running) (inputs : List ℕ) (j : ℕ) → FromTable (tableIn (streamIn f)) (getD (runAnswers f c inputs) j (refuses notInTable 0))
   never-unsound c inputs zero = rw (any-sequence c inputs) (inr (0, sound-fits f z accepted .some, refl))
   never-unsound c inputs (suc j) = rw (any-sequence c inputs) (from-table t (sound-fits f z accepted) 0 inputs (sound-fits f z accepted .some) j)
