@@ -1,16 +1,16 @@
 -- What the answer of a file's shape says of the sizes, and opening's tests of the content in the shape's terms.
 -- Assumes nothing.
-use mathlib.Core.Path.{_≡_, refl, sym, ap, ap₂, _∙_}
-use Prim.Native.Nat.{ℕ, _+_, _-_, _*_, _/_, _%_, _≤_, _<_}
+use mathlib.Core.Path.{_≡_, refl, sym, ap, _∙_}
+use Prim.Native.Nat.{ℕ, _-_, _*_, _/_, _≤_, _<_}
 use native.Mathlib.Omega.{arith}
 use mathlib.Core.Bool.{Bool, true, false}
 use mathlib.Core.List.{List}
 use lib.ListN.{length}
-use lib.Dec.{leb, eqb}
+use lib.Dec.{eqb}
 use borrow.Author.Tests.{le-leb, lt-leb, eqb-true, eqb-false, eq-eqb, ne-eqb}
-use Rattle.file_law.specs.Answer.{Answer, gives, refuses, unsound, unless, both, every}
+use Rattle.file_law.specs.Answer.{gives, refuses, unsound, unless, both, every}
 use Rattle.file_law.specs.Reading.{lengthGood, streamIn, inputsIn, outputsIn, statesIn, sizesGood, blocksFor, streamLength, clearAt, zeroAt, nextsGood, rowsGood, contentGood, Within, Sizes, sizesIn}
-use Rattle.file_law.specs.Stepping.{shapeGood, Shape, shapeAnswer}
+use Rattle.file_law.specs.Stepping.{shapeGood, shapeAnswer}
 use Rattle.file_law.proofs.Tests.{Whole, whole, shape, sizes-good}
 
 -- the sizes that a file states
@@ -88,6 +88,12 @@ both-assoc : (a b c : Bool) → both a (both b c) ≡ both (both a b) c
 both-assoc true b c = refl
 both-assoc false b c = refl
 
+pub content-shaped : {f : List ℕ} {k o n : ℕ} → Shaped f k o n → contentGood (streamIn f) (length f / 512) ≡ rowsGood (streamIn f) (blocksFor k n) k o n
+unfolding contentGood
+content-shaped {f} {k} {o} {n} s =
+    let t : length f / 512 ≡ blocksFor k n = omega (arith, s .exact) in
+    simp (t, sym (s .stated .inputs), sym (s .stated .outputs), sym (s .stated .states), sizes-good (s .size))
+
 module _ (f : List ℕ) (w : lengthGood (length f) ≡ true) where
   abbrev rest : ℕ → ℕ → ℕ → Bool
   rest k o n =
@@ -107,9 +113,3 @@ module _ (f : List ℕ) (w : lengthGood (length f) ≡ true) where
 
   pub content-unshaped : shapeGood f ≡ false → contentGood (streamIn f) (length f / 512) ≡ false
   content-unshaped e = content ∙ ap (λ (g : Bool). both g (rest (inputsIn (streamIn f)) (outputsIn (streamIn f)) (statesIn (streamIn f)))) e
-
-  pub content-shaped : {k o n : ℕ} → Shaped f k o n → contentGood (streamIn f) (length f / 512) ≡ rowsGood (streamIn f) (blocksFor k n) k o n
-  unfolding contentGood
-  content-shaped {k} {o} {n} s =
-      let t : length f / 512 ≡ blocksFor k n = omega (arith, s .exact) in
-      simp (t, sym (s .stated .inputs), sym (s .stated .outputs), sym (s .stated .states), sizes-good (s .size))

@@ -58,6 +58,7 @@ fn nexts_good(file: &[u8], k: u32, n: u32, state: u32) -> bool
     true
 }
 
+// .. and so for every state.
 fn all_nexts_good(file: &[u8], k: u32, n: u32) -> bool
     requires { ⌜ Room (now file) k n ⌝ }
     ensures { λ r. ⌜ r ≡ every (nextsGood (streamIn (now (file .entry))) k n) n 0 ⌝ }

@@ -1,9 +1,8 @@
 -- `reader::content` meets its contract: the shape, and then the rows.
 -- Assumes nothing.
 use mathlib.Core.Path.{_≡_, sym, ap, _∙_}
-use Prim.Native.Nat.{_*_, _/_, _≤_}
+use Prim.Native.Nat.{_/_}
 use native.Mathlib.Omega.{arith}
-use mathlib.Core.Bool.{true}
 use lib.ListN.{length}
 use borrow.Author.Tests.{not-true, not-false}
 use borrow.Author.Needs.{needs}
@@ -17,7 +16,7 @@ known : (c : tie.After-shaped) → Shaped (c .before .before .before .before .ar
 known c = shaped _ (sym (ap meaning (c .shaped .given .1)) ∙ c .before .before .shape .ensures)
 
 tested : (c : tie.After-rows-good) → contentGood (streamIn (c .before .before .before .before .before .before .args .file .now)) (length (c .before .before .before .before .before .before .args .file .now) / 512) ≡ c .rows-good .result
-tested c = content-shaped _ (c .before .before .before .before .before .before .pre) (known (c .before .before)) ∙ sym (c .rows-good .ensures)
+tested c = content-shaped (known (c .before .before)) ∙ sym (c .rows-good .ensures)
 
 returns : tie.Need-returns
 returns c =

@@ -10,10 +10,14 @@ use Rattle.file_law.specs.Reading.{streamIn, streamLength, blocksFor, clearAt, 
 use Rattle.reader.proofs.rows.rows_good.Statement.{statement}
 use Rattle.reader.proofs.rows.rows_good.Tie as tie
 
+-- no spare output bit was found
+clear : (c : tie.Else1) → every (clearAt (streamIn (c .before .before .before .args .file .now)) (c .before .before .before .args .k) (c .before .before .before .args .o)) (c .before .before .before .args .n) 0 ≡ true
+clear c = sym (c .before .all-clear .ensures) ∙ not-false _ (c .if1 .left)
+
 -- the filling that was tested is that of the sizes
-filling : (c : tie.After-all-zero) → every (zeroAt (streamIn (c .before .before .before .before .before .before .args .file .now)))
-    (504 * blocksFor (c .before .before .before .before .before .before .args .k) (c .before .before .before .before .before .before .args .n) - streamLength (c .before .before .before .before .before .before .args .k) (c .before .before .before .before .before .before .args .n))
-    (streamLength (c .before .before .before .before .before .before .args .k) (c .before .before .before .before .before .before .args .n)) ≡ c .all-zero .result
+filling : (c : tie.After-all-zero) →
+    let a = c .before .before .before .before .before .before .args in
+    every (zeroAt (streamIn (a .file .now))) (504 * blocksFor (a .k) (a .n) - streamLength (a .k) (a .n)) (streamLength (a .k) (a .n)) ≡ c .all-zero .result
 filling c =
     let p = zeroAt (streamIn (c .before .before .before .before .before .before .args .file .now)) in
     sym (c .all-zero .ensures ∙ ap₂ (λ (t j : ℕ). every p (504 * t - j) j) (c .before .blocks-for .ensures .0) (c .before .before .row-at .ensures .0))
@@ -28,14 +32,14 @@ returns-2 : tie.Need-returns-2
 unfolding rowsGood
 returns-2 c =
     let a = c .before .before .before .before .before .before .before .args in
-    simp (eq-eqb (blocksFor (a .k) (a .n)) _ refl, sym (c .before .before .before .before .before .all-clear .ensures) ∙ not-false _ (c .before .before .before .before .if1 .left), filling (c .before) ∙ not-true _ (c .if2 .taken))
+    simp (eq-eqb (blocksFor (a .k) (a .n)) _ refl, clear (c .before .before .before .before), filling (c .before) ∙ not-true _ (c .if2 .taken))
 
 returns-3 : tie.Need-returns-3
 unfolding rowsGood
 returns-3 c =
     let a = c .before .before .before .before .before .before .before .before .args in
     c .all-nexts-good .ensures
-    ∙ simp (eq-eqb (blocksFor (a .k) (a .n)) _ refl, sym (c .before .before .before .before .before .before .all-clear .ensures) ∙ not-false _ (c .before .before .before .before .before .if1 .left), filling (c .before .before) ∙ not-false _ (c .before .if2 .left))
+    ∙ simp (eq-eqb (blocksFor (a .k) (a .n)) _ refl, clear (c .before .before .before .before .before), filling (c .before .before) ∙ not-false _ (c .before .if2 .left))
 
 pub rows-good-spec : {M : Type 1} → statement M
 rows-good-spec =
