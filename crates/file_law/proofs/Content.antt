@@ -1,16 +1,16 @@
 -- What the answer of a file's shape says of the sizes, and opening's tests of the content in the shape's terms.
 -- Assumes nothing.
-use mathlib.Core.Path.{_≡_, refl, sym, ap, ap₂, _∙_}
-use Prim.Native.Nat.{ℕ, _+_, _-_, _*_, _/_, _%_, _≤_, _<_}
+use mathlib.Core.Path.{_≡_, refl, sym, ap, _∙_}
+use Prim.Native.Nat.{ℕ, _-_, _*_, _/_, _≤_, _<_}
 use native.Mathlib.Omega.{arith}
 use mathlib.Core.Bool.{Bool, true, false}
 use mathlib.Core.List.{List}
 use lib.ListN.{length}
-use lib.Dec.{leb, eqb}
+use lib.Dec.{eqb}
 use borrow.Author.Tests.{le-leb, lt-leb, eqb-true, eqb-false, eq-eqb, ne-eqb}
-use Rattle.file_law.specs.Answer.{Answer, gives, refuses, unsound, unless, both, every}
+use Rattle.file_law.specs.Answer.{gives, refuses, unsound, unless, both, every}
 use Rattle.file_law.specs.Reading.{lengthGood, streamIn, inputsIn, outputsIn, statesIn, sizesGood, blocksFor, streamLength, clearAt, zeroAt, nextsGood, rowsGood, contentGood, Within, Sizes, sizesIn}
-use Rattle.file_law.specs.Stepping.{shapeGood, Shape, shapeAnswer}
+use Rattle.file_law.specs.Stepping.{shapeGood, shapeAnswer}
 use Rattle.file_law.proofs.Tests.{Whole, whole, shape, sizes-good}
 
 -- the sizes that a file states

@@ -4,7 +4,6 @@ use mathlib.Core.Path.{_≡_, sym, ap, _∙_}
 use Prim.Native.Nat.{ℕ}
 use native.Mathlib.Omega.{arith}
 use mathlib.Core.List.{List}
-use Rattle.file_law.specs.Answer.{gives, refuses}
 use Rattle.file_law.specs.Reading.{Sizes, openAnswer}
 use Rattle.file_law.specs.Stepping.{shapeAnswer}
 use Rattle.reader.specs.Meaning.{meaning}

@@ -1,14 +1,12 @@
 -- `reader::shape` meets its contract: a test at a time.
 -- Assumes nothing.
 use mathlib.Core.Path.{_≡_, sym, ap, _∙_}
-use Prim.Native.Nat.{ℕ, _*_, _≤_}
+use Prim.Native.Nat.{ℕ, _*_}
 use mathlib.Core.Bool.{true}
-use mathlib.Core.List.{List}
-use lib.ListN.{length}
 use borrow.Author.Tests.{not-true, not-false}
 use borrow.Author.Needs.{needs}
 use Rattle.file_law.specs.Bytes.{word2}
-use Rattle.file_law.specs.Reading.{streamIn, sizesGood, Within}
+use Rattle.file_law.specs.Reading.{streamIn, sizesGood}
 use Rattle.file_law.proofs.Tests.{within}
 use Rattle.file_law.proofs.Content.{Stated, too-short, odd-sizes, odd-length, sound}
 use Rattle.reader.specs.Meaning.{meaning}

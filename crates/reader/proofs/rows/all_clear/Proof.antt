@@ -1,7 +1,7 @@
 -- `reader::rows::all_clear` meets its contract. The loop's invariant: from a state on, all are clear if all are.
 -- Assumes nothing.
 use mathlib.Core.Path.{_≡_, sym, _∙_}
-use Prim.Native.Nat.{ℕ, _-_, _^_, _≤_, _<_}
+use Prim.Native.Nat.{_-_, _^_}
 use native.Mathlib.Nat.{le-trans, sub-zero}
 use native.Mathlib.Omega.{arith}
 use borrow.Author.Tests.{lt-ltb, le-ltb}

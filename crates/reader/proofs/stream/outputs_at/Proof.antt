@@ -1,7 +1,6 @@
 -- `reader::stream::outputs_at` meets its contract.
 -- Assumes nothing.
-use mathlib.Core.Path.{_≡_, sym, ap, _∙_}
-use Prim.Native.Nat.{ℕ}
+use mathlib.Core.Path.{sym, ap, _∙_}
 use borrow.Author.Needs.{needs}
 use Rattle.file_law.specs.Bytes.{word2, bytesOf}
 use Rattle.file_law.specs.Reading.{place, rowAt, outputsAt}
