@@ -7,4 +7,5 @@ pub mod Range
 pub mod Lossless
 pub mod Run
 pub mod Burst
+pub mod Quick
 pub mod Table

@@ -9,9 +9,9 @@ use lib.ListN.{length}
 use lib.Dec.{ltb}
 use borrow.Author.Tests.{lt-ltb, le-ltb}
 use Rattle.file_law.specs.Answer.{Answer, gives, refuses, unsound, notInTable, unless, both}
-use Rattle.file_law.specs.Table.{mostInputs, Running}
-use Rattle.file_law.specs.Reading.{streamIn, inputsIn, outputsIn, statesIn, sizesGood, blocksFor, Within, Sizes, sizesIn, outputsAt, nextAt, clearAt}
-use Rattle.file_law.specs.Stepping.{shapeGood, Shape, shapeAnswer, standsIn, standAnswer, moveAnswer, stepAnswer, lookAnswer, outputsAnswer}
+use Rattle.file_law.specs.Table.{Running}
+use Rattle.file_law.specs.Reading.{streamIn, blocksFor, Within, Sizes, sizesIn, outputsAt, nextAt, clearAt}
+use Rattle.file_law.specs.Stepping.{shapeGood, shapeAnswer, standsIn, standAnswer, moveAnswer, stepAnswer, lookAnswer, outputsAnswer}
 use Rattle.file_law.proofs.Tests.{shape}
 
 -- a file of the length that the sizes k, o and n call for

@@ -1,30 +1,38 @@
 -- Trials of document 01 on the definitions, one table under one claim, each computed.
 -- Assumes nothing.
-use mathlib.Core.Path.{_≡_, refl}
-use Prim.Native.Nat.{ℕ}
+use mathlib.Core.Path.{_≡_, refl, ap}
+use Prim.Native.Nat.{ℕ, _-_}
+use mathlib.Core.Bool.{Bool, true}
 use mathlib.Core.List.{List, [], _∷_, _++_}
+use lib.Dec.{eqb}
 use lib.ListN.{length, set, take, replicate}
-use Rattle.crc_law.specs.Crc.{stepBit, stepBits, stepByte, register, crcOf}
-use Rattle.file_law.specs.Answer.{Answer, gives, refuses, every, firstNot, listed}
-use Rattle.file_law.specs.Bytes.{word2, word4}
-use Rattle.file_law.specs.Table.{Row, Table, Running, clocks, tableRun}
+use Rattle.crc_law.specs.Crc.{ones, crcOf}
+use Rattle.crc_law.proofs.Quick.{same-register}
+use Rattle.file_law.specs.Answer.{Answer, gives, refuses, unsound, unless, both, every, firstNot, listed}
+use Rattle.file_law.specs.Bytes.{low4, word2, word4}
+use Rattle.file_law.specs.Table.{Table, Running}
 use Rattle.file_law.specs.File.{words, rowBytes, rowsBytes, streamOf, pieceOf, bodyOf, blockOf, blocks, fileOf}
-use Rattle.file_law.specs.Reading.{blockGood, streamIn, outputsAt, nextAt, rowsGood, contentGood, blocksAnswer, openAnswer, Sizes, tableIn}
-use Rattle.file_law.specs.Stepping.{shapeGood, standAnswer, moveAnswer, stepAnswer, lookAnswer, outputsAnswer, startAnswer, stepsFrom, runAnswers}
+use Rattle.file_law.specs.Reading.{blockGood, streamIn, outputsAt, nextAt, rowsGood, contentGood, blocksAnswer, openAnswer, tableIn}
+use Rattle.file_law.specs.Stepping.{shapeGood, standAnswer, moveAnswer, stepAnswer, lookAnswer, outputsAnswer, startIn, startAnswer, after, stepsFrom, runAnswers}
 
 -- "Blink, complete"
 abbrev blink : Table
 blink = record { inputs = 1; outputs = 1; rows = record { outputs = 0; nexts = 0 ∷ 1 ∷ [] } ∷ record { outputs = 1; nexts = 1 ∷ 0 ∷ [] } ∷ [] }
 
+-- "Stream: 01 01 02 00, 00 00 00 00 01 00, 01 00 01 00 00 00."
+abbrev blink-stream : List ℕ
+blink-stream = 1 ∷ 1 ∷ 2 ∷ 0 ∷ 0 ∷ 0 ∷ 0 ∷ 0 ∷ 1 ∷ 0 ∷ 1 ∷ 0 ∷ 1 ∷ 0 ∷ 0 ∷ 0 ∷ []
+
+-- its one block: number, total, piece and check
 abbrev file : List ℕ
-file = fileOf (streamOf blink)
+file = 0 ∷ 0 ∷ 1 ∷ 0 ∷ (blink-stream ++ (replicate 488 0 ++ (0x0C ∷ 0x43 ∷ 0x25 ∷ 0xFF ∷ [])))
 
 abbrev at : ℕ → ℕ → Answer Running
 at state outputs = gives (record { state = state; outputs = outputs })
 
 pub record Trials : Type 0 where
-  -- "Stream: 01 01 02 00, 00 00 00 00 01 00, 01 00 01 00 00 00."
-  pub stream : streamOf blink ≡ 1 ∷ 1 ∷ 2 ∷ 0 ∷ 0 ∷ 0 ∷ 0 ∷ 0 ∷ 1 ∷ 0 ∷ 1 ∷ 0 ∷ 1 ∷ 0 ∷ 0 ∷ 0 ∷ []
+  pub stream : streamOf blink ≡ blink-stream
+  pub written : fileOf (streamOf blink) ≡ file
   pub one-block : length file ≡ 512
   pub opens : openAnswer file ≡ gives (record { inputs = 1; outputs = 1; states = 2 })
   pub back : tableIn (streamIn file) ≡ blink
@@ -40,21 +48,39 @@ pub record Trials : Type 0 where
   pub cut : openAnswer (take 511 file) ≡ refuses 13 0
   pub empty : openAnswer [] ≡ refuses 13 0
   pub long : openAnswer (file ++ replicate 512 0) ≡ refuses 13 0
-  -- another total, a spare output bit, a next state and a filling byte: a step that meets the first two refuses as 01 says
+  -- another total; and a spare output bit and a next state that a step meets
   pub damaged : openAnswer (set file 2 2) ≡ refuses 13 0
   pub spare : stepAnswer (set file 14 3) 0 1 ≡ refuses 13 0
   pub beyond : stepAnswer (set file 12 2) 0 1 ≡ refuses 13 0
   pub run : runAnswers file (record { state = 9; outputs = 9 }) (1 ∷ 0 ∷ 2 ∷ 1 ∷ []) ≡ at 0 0 ∷ at 1 1 ∷ at 1 1 ∷ refuses 14 0 ∷ at 0 0 ∷ []
 
+-- the check of the block, computed once
+check : crcOf (take 508 file) ≡ 0xFF25430C
+unfolding crcOf
+check = ap (λ (x : ℕ). ones - x) (same-register ones (take 508 file))
+
+good : every (blockGood file 1) 1 0 ≡ true
+unfolding every blockGood word2 word4
+good = ap (λ (x : ℕ). both (eqb 0xFF25430C x) true) check
+
+opened : openAnswer file ≡ gives (record { inputs = 1; outputs = 1; states = 2 })
+unfolding every word2 streamIn outputsAt nextAt rowsGood contentGood blocksAnswer openAnswer
+opened = ap (λ (g : Bool). unless g (refuses unsound (firstNot (blockGood file 1) 1 0)) (gives (record { inputs = 1; outputs = 1; states = 2 }))) good
+
+started : startAnswer file ≡ at 0 0
+unfolding word2 streamIn outputsAt startAnswer
+started = ap (startIn (streamIn file)) opened
+
 pub trials : Trials
-unfolding stepBit stepBits stepByte register crcOf every firstNot listed word2 word4 words rowBytes rowsBytes streamOf pieceOf bodyOf blockOf blocks fileOf blockGood streamIn outputsAt nextAt rowsGood contentGood blocksAnswer openAnswer tableIn shapeGood standAnswer moveAnswer stepAnswer lookAnswer outputsAnswer startAnswer stepsFrom runAnswers
+unfolding every firstNot listed word2 word4 words rowBytes rowsBytes streamOf pieceOf bodyOf blockOf blocks fileOf blockGood streamIn outputsAt nextAt rowsGood contentGood blocksAnswer openAnswer tableIn shapeGood standAnswer moveAnswer stepAnswer lookAnswer outputsAnswer stepsFrom runAnswers
 trials =
     record {
       stream = refl;
+      written = ap (λ (x : ℕ). take 508 file ++ low4 x) check;
       one-block = refl;
-      opens = refl;
+      opens = opened;
       back = refl;
-      start = refl;
+      start = started;
       on = refl;
       off = refl;
       shows = refl;
@@ -67,5 +93,5 @@ trials =
       damaged = refl;
       spare = refl;
       beyond = refl;
-      run = refl;
+      run = ap (λ (a : Answer Running). a ∷ stepsFrom file (after a (record { state = 9; outputs = 9 })) (1 ∷ 0 ∷ 2 ∷ 1 ∷ [])) started;
     }

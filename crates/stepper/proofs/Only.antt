@@ -4,7 +4,6 @@ use mathlib.Core.Path.{_≡_, ap, ap₂}
 use Prim.Native.Nat.{ℕ}
 use native.Mathlib.Omega.{arith}
 use mathlib.Core.List.{List}
-use Rattle.file_law.specs.Answer.{Answer}
 use Rattle.file_law.specs.Table.{Running}
 use Rattle.file_law.specs.Stepping.{stepAnswer, outputsAnswer, startAnswer}
 use Rattle.file_law.proofs.Steps.{same}

@@ -1,3 +1,5 @@
+-- `controller::moved` meets its contract: for each case of the answer both sides are the same record.
+-- Assumes nothing.
 use borrow.Author.Needs.{needs}
 use Rattle.controller.proofs.moved.Statement.{statement}
 use Rattle.controller.proofs.moved.Tie as tie

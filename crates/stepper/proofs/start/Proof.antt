@@ -1,19 +1,17 @@
+-- `stepper::start` meets its contract: what opening refuses is refused, and a sound file has a state 0, whose outputs are read.
+-- Assumes nothing.
 use mathlib.Core.Path.{_≡_, sym, ap, _∙_, subst}
 use Prim.Native.Nat.{ℕ, _≤_}
 use native.Mathlib.Omega.{arith}
-use Rattle.file_law.specs.Answer.{Answer, gives}
-use Rattle.file_law.specs.Table.{mostInputs, Running}
+use Rattle.file_law.specs.Answer.{gives}
+use Rattle.file_law.specs.Table.{mostInputs}
 use Rattle.file_law.specs.Reading.{Sizes, streamIn, openAnswer}
-use Rattle.file_law.specs.Stepping.{Shape, startIn, startAnswer}
+use Rattle.file_law.specs.Stepping.{startIn, startAnswer}
 use Rattle.file_law.proofs.Sound.{Sound, sound}
 use Rattle.reader.specs.Meaning.{meaning}
 use borrow.Author.Needs.{needs}
 use Rattle.stepper.proofs.start.Statement.{statement}
 use Rattle.stepper.proofs.start.Tie as tie
-use Rattle.stepper.proofs.start.Reads as reads
-use Rattle.stepper.proofs.start.Lts as lts
-use Rattle.reader.proofs.open.Reads as open-reads
-use Rattle.reader.proofs.outputs_at.Reads as outputs-at-reads
 
 abbrev sizes : tie.After-known-told → Sizes
 sizes c = record { inputs = c .before .opened .given .0 .0; outputs = c .before .opened .given .0 .1 .0; states = c .before .opened .given .0 .1 .1 .0 }
@@ -27,29 +25,23 @@ accepted c = sound (c .before .before .before .before .before .args .file .now) 
 few : (c : tie.After-known-told) → c .before .opened .given .0 .0 ≤ mostInputs
 few c = subst (λ (z : Sizes). z .inputs ≤ mostInputs) (sym (accepted c .sizes)) (accepted c .shape .size .inputs)
 
--- src/lib.rt:110:9
 open-requires : tie.Need-open-requires
 open-requires c κs = search needs
 
--- src/lib.rt:112:25
 enum-known-opened : tie.Need-enum-known-opened
 enum-known-opened c = search needs
 
--- src/lib.rt:114:22
 outputs-at-requires : tie.Need-outputs-at-requires
 outputs-at-requires c κs = (few c, omega arith, omega (arith, accepted c .shape .long))
 
--- src/lib.rt:116:27
 enum-known-opened-2 : tie.Need-enum-known-opened-2
 enum-known-opened-2 c = search needs
 
--- src/lib.rt:107:1
 returns : tie.Need-returns
 unfolding startAnswer
 returns c = let f = c .before .before .before .before .before .before .args .file .now in
     ap (λ (x : ℕ). gives (record { state = 0; outputs = x })) (c .outputs-at .ensures .0) ∙ ap (startIn (streamIn f)) (sym (given (c .before)))
 
--- src/lib.rt:107:1
 returns-2 : tie.Need-returns-2
 unfolding startAnswer
 returns-2 c = let f = c .before .before .before .before .before .args .file .now in

@@ -1,50 +1,39 @@
-use mathlib.Core.Path.{_≡_, sym, ap, _∙_}
+-- `stepper::windnadel_open` meets its contract: the code of the answer of `start`.
+-- Assumes nothing.
+use mathlib.Core.Path.{sym, ap, _∙_}
 use Rattle.file_law.specs.Stepping.{openCode}
 use Rattle.stepper.specs.Meaning.{meaning}
 use borrow.Author.Needs.{needs}
 use Rattle.stepper.proofs.windnadel_open.Statement.{statement}
 use Rattle.stepper.proofs.windnadel_open.Tie as tie
-use Rattle.stepper.proofs.windnadel_open.Reads as reads
-use Rattle.stepper.proofs.windnadel_open.Lts as lts
-use Rattle.stepper.proofs.start.Reads as start-reads
 
--- src/lib.rt:152:9
 start-requires : tie.Need-start-requires
 start-requires c κs = search needs
 
--- src/lib.rt:154:32
 enum-known-stands : tie.Need-enum-known-stands
 enum-known-stands c = search needs
 
--- src/lib.rt:154:45
 cast-result : tie.Need-cast-result
 cast-result c = search needs
 
--- src/lib.rt:155:27
 enum-known-stands-2 : tie.Need-enum-known-stands-2
 enum-known-stands-2 c = search needs
 
--- src/lib.rt:155:46
 cast-result-2 : tie.Need-cast-result-2
 cast-result-2 c = search needs
 
--- src/lib.rt:155:46
 mul-result : tie.Need-mul-result
 mul-result c = search needs
 
--- src/lib.rt:155:75
 cast-result-3 : tie.Need-cast-result-3
 cast-result-3 c = search needs
 
--- src/lib.rt:155:46
 add-result : tie.Need-add-result
 add-result c = search needs
 
--- src/lib.rt:148:1
 returns : tie.Need-returns
 returns c = ap openCode (sym (ap meaning (c .before .stands .given .1)) ∙ c .before .before .before .start .ensures)
 
--- src/lib.rt:148:1
 returns-2 : tie.Need-returns-2
 returns-2 c = ap openCode (sym (ap meaning (c .before .stands2 .given .1)) ∙ c .before .before .before .start .ensures)
 

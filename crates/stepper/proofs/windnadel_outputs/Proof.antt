@@ -1,3 +1,5 @@
+-- `stepper::windnadel_outputs` meets its contract: the code of the answer of `outputs`.
+-- Assumes nothing.
 use mathlib.Core.Path.{_≡_, sym, ap, _∙_}
 use native.Mathlib.Omega.{arith}
 use Rattle.file_law.specs.Answer.{refuses}
@@ -7,35 +9,26 @@ use Rattle.stepper.specs.Meaning.{meaning}
 use borrow.Author.Needs.{needs}
 use Rattle.stepper.proofs.windnadel_outputs.Statement.{statement}
 use Rattle.stepper.proofs.windnadel_outputs.Tie as tie
-use Rattle.stepper.proofs.windnadel_outputs.Reads as reads
-use Rattle.stepper.proofs.windnadel_outputs.Lts as lts
-use Rattle.stepper.proofs.outputs.Reads as outputs-reads
 
 refusal : (c : tie.After-known-told2) → refuses (c .before .stands2 .given .0 .0) (c .before .stands2 .given .0 .1 .0) ≡ outputsAnswer (c .before .before .before .before .before .args .file .now) (c .before .before .before .before .before .args .state)
 refusal c = sym (ap meaning (c .before .stands2 .given .1)) ∙ c .before .before .before .outputs .ensures
 
--- src/lib.rt:123:9
 outputs-requires : tie.Need-outputs-requires
 outputs-requires c κs = search needs
 
--- src/lib.rt:125:32
 enum-known-stands : tie.Need-enum-known-stands
 enum-known-stands c = search needs
 
--- src/lib.rt:126:27
 enum-known-stands-2 : tie.Need-enum-known-stands-2
 enum-known-stands-2 c = search needs
 
--- src/lib.rt:126:49
 add-result : tie.Need-add-result
 add-result c = let a = c .before .before .before .before .before .args in
     omega (arith, outputs-small (a .file .now) (a .state) _ _ (refusal c))
 
--- src/lib.rt:119:1
 returns : tie.Need-returns
 returns c = ap outputsCode (sym (ap meaning (c .before .stands .given .1)) ∙ c .before .before .before .outputs .ensures)
 
--- src/lib.rt:119:1
 returns-2 : tie.Need-returns-2
 returns-2 c = ap outputsCode (refusal c)
 
