@@ -1,11 +1,13 @@
 pub mod Every
 pub mod Listed
+pub mod Answers
 pub mod Tests
 pub mod Content
 pub mod Patch
 pub mod Blocks
 pub mod Lent
 pub mod Steps
+pub mod Codes
 pub mod Words
 pub mod Joined
 pub mod Held

@@ -1,63 +1,45 @@
 -- From the answer about a file's shape to a step's answer: what the stepper's code goes by.
 -- Assumes nothing.
-use mathlib.Core.Path.{_≡_, refl, sym, ap, _∙_, subst}
+use mathlib.Core.Path.{_≡_, sym, ap, ap₂, _∙_}
 use Prim.Native.Nat.{ℕ, _*_, _^_, _≤_, _<_}
 use native.Mathlib.Omega.{arith}
 use mathlib.Core.Bool.{Bool, true, false}
 use mathlib.Core.List.{List}
-use lib.ListN.{length}
 use lib.Dec.{ltb}
 use borrow.Author.Tests.{lt-ltb, le-ltb}
 use Rattle.file_law.specs.Answer.{Answer, gives, refuses, unsound, notInTable, unless, both}
 use Rattle.file_law.specs.Table.{Running}
-use Rattle.file_law.specs.Reading.{streamIn, blocksFor, Within, Sizes, sizesIn, outputsAt, nextAt, clearAt}
-use Rattle.file_law.specs.Stepping.{shapeGood, shapeAnswer, standsIn, standAnswer, moveAnswer, stepAnswer, lookAnswer, outputsAnswer}
-use Rattle.file_law.proofs.Tests.{shape}
+use Rattle.file_law.specs.Reading.{streamIn, inputsIn, outputsIn, statesIn, sizesIn, outputsAt, nextAt, clearAt}
+use Rattle.file_law.specs.Stepping.{shapeGood, Sized, shapeAnswer, standsIn, standAnswer, moveAnswer, stepAnswer, lookAnswer, outputsAnswer}
+use Rattle.file_law.proofs.Answers.{never}
+use Rattle.file_law.proofs.Content.{shaped, unshaped}
 
--- a file of the length that the sizes k, o and n call for
-pub record Sized (f : List ℕ) (k o n : ℕ) : Type 0 where
-  pub size : Within k o n
-  pub exact : length f ≡ 512 * blocksFor k n
+pub sized : (f : List ℕ) {k o n : ℕ} → gives (record { inputs = k; outputs = o; states = n }) ≡ shapeAnswer f → Sized f k o n
+sized f e = let s = shaped f e in record { size = s .size; exact = s .exact }
 
-module _ {A : Type 0} where
-  pub never : {a : A} {number at : ℕ} → gives a ≡ refuses number at → ⊥
-  never e = let z : _≡_ {A = ℕ} 0 1 = cc in omega arith
+-- a test of the shape that has passed leaves what comes next, at the sizes that it gave
+through : (f : List ℕ) (k o n : ℕ) (g : ℕ → ℕ → ℕ → Answer Running) → gives (record { inputs = k; outputs = o; states = n }) ≡ shapeAnswer f
+    → unless (shapeGood f) (refuses unsound 0) (g (inputsIn (streamIn f)) (outputsIn (streamIn f)) (statesIn (streamIn f))) ≡ g k o n
+through f k o n g e =
+    let b = streamIn f in
+    let s = shaped f e in
+    ap (λ (t : Bool). unless t (refuses unsound 0) (g (inputsIn b) (outputsIn b) (statesIn b))) (s .good)
+    ∙ sym (ap (λ (x : ℕ). g x o n) (s .stated .inputs) ∙ ap (λ (x : ℕ). g (inputsIn b) x n) (s .stated .outputs) ∙ ap (λ (x : ℕ). g (inputsIn b) (outputsIn b) x) (s .stated .states))
 
-  pub same : {a b : A} → gives a ≡ gives b → a ≡ b
-  same e = cc
-
-module _ (f : List ℕ) (z : Sizes) where
-  passed : (t : Bool) → shapeGood f ≡ t → gives z ≡ unless t (refuses unsound 0) (gives (sizesIn (streamIn f))) → (shapeGood f ≡ true) × (z ≡ sizesIn (streamIn f))
-  passed true e g = (e, same g)
-  passed false e g = absurd (never g)
-
-  shaped : gives z ≡ shapeAnswer f → (shapeGood f ≡ true) × (z ≡ sizesIn (streamIn f))
-  unfolding shapeAnswer
-  shaped g = passed (shapeGood f) refl g
-
-  pub sized : gives z ≡ shapeAnswer f → Sized f (z .inputs) (z .outputs) (z .states)
-  sized g =
-      let s = shape f (shaped g .0) in
-      subst (λ (y : Sizes). Sized f (y .inputs) (y .outputs) (y .states)) (sym (shaped g .1)) (record { size = s .size; exact = s .exact })
-
-  -- a test of the shape that has passed leaves what comes next, at the sizes that it gave
-  pub through : (g : Sizes → Answer Running) → gives z ≡ shapeAnswer f → unless (shapeGood f) (refuses unsound 0) (g (sizesIn (streamIn f))) ≡ g z
-  through g e = ap (λ (t : Bool). unless t (refuses unsound 0) (g (sizesIn (streamIn f)))) (shaped e .0) ∙ ap g (sym (shaped e .1))
-
-module _ (f : List ℕ) (number at : ℕ) where
-  stopped : (t : Bool) (x : Answer Running) → refuses number at ≡ unless t (refuses unsound 0) (gives (sizesIn (streamIn f))) → unless t (refuses unsound 0) x ≡ refuses number at
-  stopped true x e = absurd (never (sym e))
-  stopped false x e = let n : number ≡ unsound = cc in let p : at ≡ 0 = cc in cc
-
-  -- .. and one that has failed leaves its refusal
-  pub refused : (x : Answer Running) → refuses number at ≡ shapeAnswer f → unless (shapeGood f) (refuses unsound 0) x ≡ refuses number at
-  unfolding shapeAnswer
-  refused x e = stopped (shapeGood f) x e
+-- .. and one that has failed leaves its refusal
+refused : (f : List ℕ) (number at : ℕ) (x : Answer Running) → refuses number at ≡ shapeAnswer f → unless (shapeGood f) (refuses unsound 0) x ≡ refuses number at
+unfolding shapeAnswer
+refused f number at x e =
+    let t = unshaped f e in
+    let r : refuses number at ≡ refuses unsound 0 = e ∙ ap (λ (u : Bool). unless u (refuses unsound 0) (gives (sizesIn (streamIn f)))) t in
+    let n : number ≡ unsound = cc in
+    let p : at ≡ 0 = cc in
+    ap (λ (u : Bool). unless u (refuses unsound 0) x) t ∙ ap₂ (λ (a b : ℕ). refuses a b) (sym n) (sym p)
 
 module _ (f : List ℕ) (state input : ℕ) where
   pub step-given : (k o n : ℕ) → gives (record { inputs = k; outputs = o; states = n }) ≡ shapeAnswer f → stepAnswer f state input ≡ moveAnswer (streamIn f) k o n state input
   unfolding stepAnswer
-  step-given k o n = through f (record { inputs = k; outputs = o; states = n }) (λ z. moveAnswer (streamIn f) (z .inputs) (z .outputs) (z .states) state input)
+  step-given k o n = through f k o n (λ x y z. moveAnswer (streamIn f) x y z state input)
 
   pub step-refused : (number at : ℕ) → refuses number at ≡ shapeAnswer f → stepAnswer f state input ≡ refuses number at
   unfolding stepAnswer
@@ -65,7 +47,7 @@ module _ (f : List ℕ) (state input : ℕ) where
 
   pub look-given : (k o n : ℕ) → gives (record { inputs = k; outputs = o; states = n }) ≡ shapeAnswer f → outputsAnswer f state ≡ lookAnswer (streamIn f) k o n state
   unfolding outputsAnswer
-  look-given k o n = through f (record { inputs = k; outputs = o; states = n }) (λ z. lookAnswer (streamIn f) (z .inputs) (z .outputs) (z .states) state)
+  look-given k o n = through f k o n (λ x y z. lookAnswer (streamIn f) x y z state)
 
   pub look-refused : (number at : ℕ) → refuses number at ≡ shapeAnswer f → outputsAnswer f state ≡ refuses number at
   unfolding outputsAnswer

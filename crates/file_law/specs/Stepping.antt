@@ -23,6 +23,11 @@ pub record Shape (f : List ℕ) : Type 0 where
   pub size : Within (inputsIn (streamIn f)) (outputsIn (streamIn f)) (statesIn (streamIn f))
   pub exact : length f ≡ 512 * blocksFor (inputsIn (streamIn f)) (statesIn (streamIn f))
 
+-- "the length .. they call for": of a file with the sizes k, o and n
+pub record Sized (f : List ℕ) (k o n : ℕ) : Type 0 where
+  pub size : Within k o n
+  pub exact : length f ≡ 512 * blocksFor k n
+
 unfoldable pub shapeAnswer : List ℕ → Answer Sizes
 shapeAnswer f = unless (shapeGood f) (refuses unsound 0) (gives (sizesIn (streamIn f)))
 

@@ -6,7 +6,7 @@ use native.Mathlib.Omega.{arith}
 use mathlib.Core.List.{List}
 use Rattle.file_law.specs.Table.{Running}
 use Rattle.file_law.specs.Stepping.{stepAnswer, outputsAnswer, startAnswer}
-use Rattle.file_law.proofs.Steps.{same}
+use Rattle.file_law.proofs.Answers.{same}
 use Rattle.stepper.specs.Meaning.{meaning}
 use Rattle.stepper.specs.declared.Stands.{Stands}
 use Rattle.stepper.specs.declared.Stands.the-variants.{At, Refused}

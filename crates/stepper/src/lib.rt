@@ -2,8 +2,7 @@
 ghost use mathlib.Core.Path.{_≡_};
 ghost use Prim.Native.Nat.{_<_};
 ghost use Rattle.file_law.specs.Reading.{streamIn};
-ghost use Rattle.file_law.specs.Stepping.{standAnswer, moveAnswer, stepAnswer, lookAnswer, outputsAnswer, startAnswer, stepCode, outputsCode, openCode};
-ghost use Rattle.file_law.proofs.Steps.{Sized};
+ghost use Rattle.file_law.specs.Stepping.{Sized, standAnswer, moveAnswer, stepAnswer, lookAnswer, outputsAnswer, startAnswer, stepCode, outputsCode, openCode};
 ghost use Rattle.stepper.specs.Meaning.{meaning};
 use reader::Opened;
 

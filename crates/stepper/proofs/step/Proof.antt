@@ -20,7 +20,7 @@ enum-known-shape : tie.Need-enum-known-shape
 enum-known-shape c = search needs
 
 move-in-requires : tie.Need-move-in-requires
-move-in-requires c κs = sized (c .before .before .before .before .before .args .file .now) _ (given c)
+move-in-requires c κs = sized (c .before .before .before .before .before .args .file .now) (given c)
 
 enum-known-shape-2 : tie.Need-enum-known-shape-2
 enum-known-shape-2 c = search needs
