@@ -5,7 +5,7 @@ use Prim.Native.Nat.{ℕ, _-_, _*_}
 use borrow.Author.Tests.{eq-eqb, not-true, not-false}
 use borrow.Author.Needs.{needs}
 use Rattle.file_law.specs.Answer.{every}
-use Rattle.file_law.specs.Reading.{streamIn, streamLength, blocksFor, zeroAt, rowsGood}
+use Rattle.file_law.specs.Reading.{streamIn, streamLength, blocksFor, clearAt, zeroAt, rowsGood}
 use Rattle.reader.proofs.rows.rows_good.Statement.{statement}
 use Rattle.reader.proofs.rows.rows_good.Tie as tie
 
