@@ -63,7 +63,7 @@ pub struct Controller {
 /// sound.
 pub fn open(file: &[u8]) -> Result<Controller, Refusal> {
     let blocks = file.len() / BLOCK;
-    if file.is_empty() || file.len() % BLOCK != 0 || blocks > LARGEST_FILE {
+    if file.is_empty() || !file.len().is_multiple_of(BLOCK) || blocks > LARGEST_FILE {
         return Err(Refusal::at(13, 0));
     }
     for (number, block) in file.chunks(BLOCK).enumerate() {
