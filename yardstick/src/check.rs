@@ -3,6 +3,7 @@
 //! All faults of the whole text are candidates. The check never stops at one; it keeps the least.
 
 use crate::refusal::Refusal;
+use crate::state::ACTIVITIES;
 use crate::tree::{
     Class, Declaration, Expr, ExprKind, Link, List, Operator, Program, Statement, StatementKind, Target, Variable,
 };
@@ -13,11 +14,10 @@ const OUTPUTS: u32 = 16;
 const BITS: u32 = 32;
 /// "Width 1 to 16."
 const WIDEST: u16 = 16;
-/// "Statements 255; expression parts 1,024; delay 255; activities 8."
+/// "Statements 255; expression parts 1,024; delay 255."
 const STATEMENTS: u32 = 255;
 const PARTS: u32 = 1_024;
 const DELAY: u16 = 255;
-const ACTIVITIES: usize = 8;
 /// "A size above 2,147,483,647 anywhere is refused."
 const LARGEST_SIZE: u64 = 2_147_483_647;
 

@@ -1,36 +1,8 @@
 //! One clock: where each activity stands, what it tries, where it stands next.
 
-use std::ops::Range;
-
-use crate::tree::{
-    Branch, Case, Change, Expr, ExprKind, List, Operator, Point, Program, Statement, StatementKind, Target, Variable,
-};
-
-/// "A state holds eight activity places and one value word." "Two states are one exactly when all of this is equal."
-#[derive(Clone, Copy, PartialEq, Eq, Hash, Debug)]
-pub struct State {
-    activities: [Activity; 8],
-    /// "Every non-input bit", first declared lowest.
-    pub word: u32,
-}
-
-/// One activity of a state.
-#[derive(Clone, Copy, PartialEq, Eq, Hash, Debug)]
-enum Activity {
-    /// No branch that runs now has this activity.
-    Unused,
-    /// "Or that its branch has finished."
-    Finished,
-    /// "The statement or case test that it starts with next clock, with any delay clocks left."
-    Stands(Stand),
-}
-
-#[derive(Clone, Copy, PartialEq, Eq, Hash, Debug)]
-struct Stand {
-    point: Point,
-    /// 0 where no delay has begun.
-    left: u8,
-}
+use crate::state::{Activity, Stand, State, ACTIVITIES};
+use crate::tree::{Branch, Case, Change, Expr, List, Point, Program, Statement, StatementKind, Target, Variable};
+use crate::value::{low_bits, Reads};
 
 /// "Each statement, run from where it stands, finishes in no time, jumps, or waits with a set of tried bits."
 enum Outcome {
@@ -78,37 +50,11 @@ impl Tries {
     }
 }
 
-impl State {
-    /// "The start is the first statement with the initial values."
-    pub fn start(program: &Program) -> State {
-        let mut word = 0;
-        for declaration in &program.declarations {
-            let initial = u32::from(declaration.initial);
-            match declaration.variable {
-                Variable::Boolean(bit) => word |= initial << bit,
-                // "`:=` and initialisers keep the low bits of the two's complement form."
-                Variable::Integer { low, width } => word |= (initial & low_bits(width)) << low,
-                Variable::Input(_) | Variable::Unknown => {}
-            }
-        }
-        let mut activities = [Activity::Unused; 8];
-        activities[0] = Activity::Stands(Stand { point: 0, left: 0 });
-        State { activities, word }
-    }
-
-    /// The first of the activities that stands somewhere; those before it are finished branches.
-    fn standing(&self, activities: Range<usize>) -> Option<Stand> {
-        self.activities[activities].iter().find_map(|activity| match activity {
-            Activity::Stands(stand) => Some(*stand),
-            _ => None,
-        })
-    }
-}
-
 /// The state after one clock with this input.
 pub fn next(program: &Program, state: &State, input: u32) -> State {
-    let mut clock = Clock { state, input, activities: [Activity::Unused; 8] };
-    let tries = match clock.list(&program.body, state.standing(0..8)) {
+    let mut clock =
+        Clock { state, reads: Reads { word: state.word, input }, activities: [Activity::Unused; ACTIVITIES] };
+    let tries = match clock.list(&program.body, state.standing(0..ACTIVITIES)) {
         Outcome::Waits(tries, After::Inside) => tries,
         // "After the last statement the machine stands at the end for ever."
         Outcome::Waits(tries, After::Ended) => {
@@ -123,12 +69,11 @@ pub fn next(program: &Program, state: &State, input: u32) -> State {
     State { activities: clock.activities, word: (state.word | tries.ones) & !tries.zeros }
 }
 
-/// "All reads in a clock see the values at its start and the clock's inputs."
 struct Clock<'a> {
     state: &'a State,
-    input: u32,
+    reads: Reads,
     /// The next state's activities as far as they are known.
-    activities: [Activity; 8],
+    activities: [Activity; ACTIVITIES],
 }
 
 /// Statements. `from` says where inside itself a statement that has begun stands; without it the statement starts.
@@ -199,14 +144,16 @@ impl Clock<'_> {
         match change {
             Change::Raise => Tries::of(bit, bit),
             Change::Lower => Tries::of(bit, 0),
-            Change::Invert => Tries::of(bit, !self.state.word),
+            Change::Invert => Tries::of(bit, !self.reads.word),
         }
     }
 
     /// "`:=` tries every bit", with "the low bits of the two's complement form".
     fn assign(&self, variable: Variable, value: &Expr) -> Tries {
         match variable {
-            Variable::Integer { low, width } => Tries::of(low_bits(width) << low, (self.value(value) as u32) << low),
+            Variable::Integer { low, width } => {
+                Tries::of(low_bits(width) << low, (self.reads.value(value) as u32) << low)
+            }
             _ => Tries::NONE,
         }
     }
@@ -214,7 +161,7 @@ impl Clock<'_> {
     fn if_statement(&mut self, test: &Expr, then: &List, otherwise: &List, from: Option<Stand>) -> Outcome {
         let in_then = match from {
             Some(stand) => then.last().is_some_and(|last| stand.point < last.points.end),
-            None => self.truth(test),
+            None => self.reads.truth(test),
         };
         self.list(if in_then { then } else { otherwise }, from)
     }
@@ -234,7 +181,7 @@ impl Clock<'_> {
                 outcome => return self.after_body(statement, outcome),
             }
         }
-        if test.is_some_and(|test| !self.truth(test)) {
+        if test.is_some_and(|test| !self.reads.truth(test)) {
             return Outcome::Finishes;
         }
         match self.list(body, None) {
@@ -273,7 +220,7 @@ impl Clock<'_> {
     fn case(&mut self, case: &Case, from: Option<Stand>) -> Outcome {
         match from {
             Some(stand) if stand.point != case.points.start => self.list(&case.body, from),
-            _ if self.truth(&case.test) => self.list(&case.body, None),
+            _ if self.reads.truth(&case.test) => self.list(&case.body, None),
             _ => Outcome::Finishes,
         }
     }
@@ -336,54 +283,4 @@ impl Clock<'_> {
             Jump::Break => Outcome::Finishes,
         }
     }
-}
-
-/// Expressions. A boolean's value is 1 for true and 0 for false.
-impl Clock<'_> {
-    fn truth(&self, expression: &Expr) -> bool {
-        self.value(expression) != 0
-    }
-
-    /// "An integer expression has its exact whole value, and a value below zero is a proper value." Worst sizes keep
-    /// every value within 32 bits.
-    fn value(&self, expression: &Expr) -> i64 {
-        let bit = |number: u32, bit: u32| i64::from(number >> bit & 1);
-        match &expression.kind {
-            ExprKind::Number(value) => i64::from(*value),
-            ExprKind::Truth(value) => i64::from(*value),
-            ExprKind::Name(Variable::Input(at)) => bit(self.input, *at),
-            ExprKind::Name(Variable::Boolean(at)) => bit(self.state.word, *at),
-            ExprKind::Name(Variable::Integer { low, width }) => i64::from(self.state.word >> low & low_bits(*width)),
-            ExprKind::Bit(Variable::Integer { low, .. }, index) => bit(self.state.word, low + index),
-            // The check has refused unknown names, and bits of what is no integer.
-            ExprKind::Name(Variable::Unknown) | ExprKind::Bit(..) => 0,
-            ExprKind::Int(operand) => self.value(operand),
-            ExprKind::Not(operand) => i64::from(!self.truth(operand)),
-            ExprKind::Row(first, links) => {
-                links.iter().fold(self.value(first), |left, link| apply(link.operator, left, self.value(&link.operand)))
-            }
-        }
-    }
-}
-
-/// "`/` goes toward zero and `%` takes the dividend's sign (house); a/0 is 0 and a%0 is a (house)."
-fn apply(operator: Operator, left: i64, right: i64) -> i64 {
-    match operator {
-        Operator::Equal => i64::from(left == right),
-        Operator::Unequal => i64::from(left != right),
-        Operator::Greater => i64::from(left > right),
-        Operator::Less => i64::from(left < right),
-        Operator::And => left & right,
-        Operator::Or => left | right,
-        Operator::Add => left + right,
-        Operator::Subtract => left - right,
-        Operator::Multiply => left * right,
-        Operator::Divide => left.checked_div(right).unwrap_or(0),
-        Operator::Remainder => left.checked_rem(right).unwrap_or(left),
-    }
-}
-
-/// A mask of the lowest `width` bits, at most 16.
-fn low_bits(width: u32) -> u32 {
-    (1 << width) - 1
 }

@@ -13,7 +13,9 @@ pub mod listing;
 pub mod parse;
 pub mod refusal;
 pub mod search;
+pub mod state;
 pub mod tree;
+pub mod value;
 pub mod words;
 
 use refusal::Refusal;

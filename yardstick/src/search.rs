@@ -2,8 +2,9 @@
 
 use std::collections::hash_map::{Entry, HashMap};
 
-use crate::clock::{next, State};
+use crate::clock::next;
 use crate::refusal::Refusal;
+use crate::state::State;
 use crate::tree::{Class, Program, Variable};
 
 /// The machine as a table.
@@ -27,7 +28,7 @@ pub struct Row {
 }
 
 /// "State 0 is the start; states are numbered as first met, going through states in number order and inputs in rising
-/// order." Refusal 11 when there are "reachable states above the room".
+/// order." Refusal 11 when there are "reachable states above the room". The program has passed the check.
 pub fn search(program: &Program, room: usize) -> Result<Table, Refusal> {
     let inputs = program.declarations.iter().filter(|declaration| declaration.class == Class::Input).count();
     let output_bits = output_bits(program);

@@ -33,7 +33,7 @@ fn stored_listings() {
             seen += 1;
         }
     }
-    assert!(seen >= 6);
+    assert!(seen >= 7);
 }
 
 /// How many states are left when equal ones are merged: states with other outputs, or that lead to states that differ,
@@ -64,6 +64,31 @@ fn the_soda_machine_has_the_states_that_001_prints() {
 }
 
 #[test]
+fn the_blackjack_player_has_the_states_that_001_prints() {
+    let blackjack = example("blackjack");
+    assert_eq!(blackjack.states(), 74);
+    assert_eq!(merged(&blackjack.table), 32);
+}
+
+#[test]
+fn a_hand_of_blackjack() {
+    let file = example("blackjack").file;
+    let mut player = open(&file).unwrap();
+    // HIT, STAND and BUST, and the score shown by S4 (first declared) to S0.
+    let shown = |outputs: u16| (outputs & 7, (3..8).fold(0, |score, bit| score << 1 | outputs >> bit & 1));
+    assert_eq!(shown(player.outputs), (1, 0));
+    // An ace as 11, a five, a king that makes the ace 1, a five; then the reset.
+    for (card, status, score) in [(1, 1, 11), (5, 1, 16), (13, 1, 16), (5, 2, 21)] {
+        let lines = (0..4).fold(0, |lines, bit| lines | (card >> bit & 1) << (5 - bit));
+        player.step(&file, 2 | lines).unwrap();
+        assert_eq!(shown(player.outputs), (status, score), "card {card}");
+        player.step(&file, 0).unwrap();
+    }
+    player.step(&file, 1).unwrap();
+    assert_eq!(shown(player.outputs), (1, 0));
+}
+
+#[test]
 fn one_program_has_more_than_two_hundred_states() {
     assert!(example("mast").states() > 200);
 }
@@ -85,9 +110,8 @@ impl Queue {
     /// One clock with the inputs FROST, WATER, FIRE, METER, SENT from the lowest bit.
     fn clock(self, input: u32) -> Queue {
         let [frost, water, fire, meter, sent] = [0, 1, 2, 3, 4].map(|bit| input >> bit & 1 == 1);
-        let mut next = Queue::default();
-        next.take_meter = meter && self.waiting() == 0 && !self.take_meter && !fire && !frost && !water;
-        next.frames = self.frames;
+        let take_meter = meter && self.waiting() == 0 && !self.take_meter && !fire && !frost && !water;
+        let mut next = Queue { frames: self.frames, lost: false, take_meter };
         for (kind, comes) in [fire, frost, water, self.take_meter].into_iter().enumerate() {
             let room = self.waiting() + [fire, frost, water][..kind].iter().filter(|&&comes| comes).count() as u32;
             if comes && room < 6 {

@@ -244,43 +244,46 @@ fn names() {
     );
 }
 
+/// Statement lists with an input I, an output b and integers x[3] and y[16].
+const WRONG_KINDS: &[&str] = &[
+    "^x := true",
+    "^x := b",
+    "^b := 1",
+    "^I := 1",
+    "^if 5 then skip endif",
+    "^while x do loop skip endloop",
+    "switch case b: skip ^case x: skip default: skip endswitch",
+    "x := ^int(5)",
+    "x := ^int(x + 1)",
+    "x := 1 ^+ b",
+    "x := 1 ^+ b[0]",
+    "x := true ^+ 1",
+    "^if x + true then skip endif",
+    "if x ^== b then skip endif",
+    "if x > 1 ^> 2 then skip endif",
+    "if b ^& x then skip endif",
+    "if x ^| b then skip endif",
+    "if ^!x then skip endif",
+    "if b ^> b then skip endif",
+    "^raise(I)",
+    "^lower(x)",
+    "^invert(I)",
+    "raise(^I[0])",
+    "raise(^b[0])",
+    "raise(^x[3])",
+    "invert(^x[65535])",
+    "if ^x[3] then skip endif",
+    "if ^b[0] then skip endif",
+    "if ^I[0] then skip endif",
+    // No fault hides another: the earliest of all counts.
+    "^if x then x := true + 1 endif",
+    "x := (1 ^+ true) * (b * 1)",
+];
+
 #[test]
 fn kinds() {
     let with = "program p; input I; output b; integer x[3], y[16]; ";
-    for list in [
-        "^x := true",
-        "^x := b",
-        "^b := 1",
-        "^I := 1",
-        "^if 5 then skip endif",
-        "^while x do loop skip endloop",
-        "switch case b: skip ^case x: skip default: skip endswitch",
-        "x := ^int(5)",
-        "x := ^int(x + 1)",
-        "x := 1 ^+ b",
-        "x := 1 ^+ b[0]",
-        "x := true ^+ 1",
-        "^if x + true then skip endif",
-        "if x ^== b then skip endif",
-        "if x > 1 ^> 2 then skip endif",
-        "if b ^& x then skip endif",
-        "if x ^| b then skip endif",
-        "if ^!x then skip endif",
-        "if b ^> b then skip endif",
-        "^raise(I)",
-        "^lower(x)",
-        "^invert(I)",
-        "raise(^I[0])",
-        "raise(^b[0])",
-        "raise(^x[3])",
-        "invert(^x[65535])",
-        "if ^x[3] then skip endif",
-        "if ^b[0] then skip endif",
-        "if ^I[0] then skip endif",
-        // No fault hides another: the earliest of all counts.
-        "^if x then x := true + 1 endif",
-        "x := (1 ^+ true) * (b * 1)",
-    ] {
+    for list in WRONG_KINDS {
         all_refused(7, &[&format!("{with}{list} endprog")]);
     }
     all_refused(

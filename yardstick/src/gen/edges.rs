@@ -103,18 +103,17 @@ fn activities(random: &mut Random, past: usize) -> String {
 
 /// Thirty-two levels or one more, of every kind that can open.
 fn levels(random: &mut Random, past: usize) -> String {
-    let total = 32 + past;
-    let inner = random.of(&[1, 2, 5, total]);
-    let mut core =
-        random.of(&["raise(A)", "if @ then skip endif", "while @ do loop skip endloop", "x := int@"]).to_string();
-    if core == "raise(A)" {
-        return wrap_statements(random, core, total - 1);
-    }
-    let expression_levels = if core.contains("int") { inner.min(total) } else { inner.min(total - 1) };
-    let expression = nest_expression(random, expression_levels, core.contains("int"));
-    let own = usize::from(!core.contains("int"));
-    core = core.replace('@', &expression);
-    wrap_statements(random, core, total - expression_levels - own)
+    let (core, own, parenthesis) = random.of(&[
+        ("raise(A)", 1, false),
+        ("parallel skip || skip endparallel", 1, false),
+        ("if @ then skip endif", 1, false),
+        ("while @ do loop skip endloop", 1, false),
+        ("x := int@", 0, true),
+    ]);
+    let left = 32 + past - own;
+    let inside = if core.contains('@') { random.of(&[1, 2, 5, left]) } else { 0 };
+    let core = core.replace('@', &nest_expression(random, inside, parenthesis));
+    wrap_statements(random, core, left - inside)
 }
 
 /// An expression with this many levels, beginning with a parenthesis where `int` needs it.

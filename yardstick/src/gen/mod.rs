@@ -21,7 +21,7 @@ pub fn records(seed: u64) -> impl Iterator<Item = Record> {
 
 fn record(random: &mut Random) -> Record {
     match random.below(20) {
-        0..=8 => plain(render(random, &program::words)),
+        0..=8 => plain(good(random)),
         9..=11 => tight(random),
         12..=17 => plain(damage::source(random)),
         _ => plain(edges::source(random)),
@@ -35,7 +35,7 @@ fn plain(source: Vec<u8>) -> Record {
 
 /// A good program with a room, work area and buffer at or near what it needs.
 fn tight(random: &mut Random) -> Record {
-    let mut record = plain(render(random, &program::words));
+    let mut record = plain(good(random));
     let Ok(compiled) = compile(&record.source, record.lent) else {
         return record;
     };
@@ -48,12 +48,12 @@ fn tight(random: &mut Random) -> Record {
     record
 }
 
-/// Writes words with blanks between them, in one of several manners.
-fn render(random: &mut Random, words: &dyn Fn(&mut Random) -> Vec<String>) -> Vec<u8> {
-    let words = words(random);
+fn good(random: &mut Random) -> Vec<u8> {
+    let words = program::words(random);
     join(random, &words)
 }
 
+/// Writes words with blanks between them, in one of several manners.
 fn join(random: &mut Random, words: &[String]) -> Vec<u8> {
     let manner = random.below(3);
     let mut text = String::new();
