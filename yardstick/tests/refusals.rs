@@ -209,8 +209,12 @@ fn thirty_two_levels() {
         all_refused(5, &[&nested(open, close, 32, core)]);
         all_compile(&[&nested(open, close, 31, &core.replace('^', ""))]);
     }
-    // Inside an if or while the test stands at its level already, and a `!` is open until its operand ends.
-    let tests = [("if ", " then skip endif"), ("while ", " do loop skip endloop")];
+    // A test stands inside its statement's level, and a `!` is open until its operand ends.
+    let tests = [
+        ("if ", " then skip endif"),
+        ("while ", " do loop skip endloop"),
+        ("switch case A: skip case ", ": skip default: skip endswitch"),
+    ];
     for (before, after) in tests {
         let test = |marks: &str| format!("{before}{marks}A{after}");
         all_refused(

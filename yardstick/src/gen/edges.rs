@@ -22,6 +22,8 @@ pub fn source(random: &mut Random) -> Vec<u8> {
         worst_size,
         bit_number,
         states,
+        crowded_list,
+        crowded_declarations,
     ]);
     let past = usize::from(random.one_in(2));
     edge(random, past).into_bytes()
@@ -173,4 +175,19 @@ fn bit_number(random: &mut Random, past: usize) -> String {
 fn states(random: &mut Random, past: usize) -> String {
     let first = random.between(1, 254);
     format!("program p; delay {first}; delay {} endprog", 255 - first + past)
+}
+
+/// A list far past every size, with another fault at its end: a lower number must still be found.
+fn crowded_list(random: &mut Random, past: usize) -> String {
+    let statement = random.of(&["skip;", "x:=x+1+1+1;", "if A then skip endif;", "parallel skip||skip endparallel;"]);
+    let last = random.of(&["skip", "raise(u)", "x:=A", "raise(x[9])", "exit", "break", "x:=x*65535*65535", "x:=(1"]);
+    let count = (LONGEST_SOURCE - 100) / statement.len() / (2 - past);
+    format!("program p; output A; integer x[3]; {}{last} endprog", statement.repeat(count))
+}
+
+/// More names than fit, the last of them perhaps declared before.
+fn crowded_declarations(random: &mut Random, past: usize) -> String {
+    let (class, ending) = random.of(&[("input", ""), ("output", ".L"), ("internal", "=true"), ("integer", "[1]=1")]);
+    let last = if past == 1 { 0 } else { 900 };
+    format!("program p; {class} {}, n{last}{ending}; skip endprog", names(random.of(&[40, 500]), ending))
 }
