@@ -1,0 +1,85 @@
+//! The yardstick as a program; see README.md.
+
+use std::io::{self, BufReader, Read, Write};
+use std::process::ExitCode;
+
+use yardstick::batch::Record;
+use yardstick::listing::listing;
+use yardstick::{compile, gen, Lent};
+
+const USAGE: &str = "usage: yardstick list < SOURCE
+       yardstick file < SOURCE > TABLE
+       yardstick batch < RECORDS
+       yardstick gen SEED COUNT > RECORDS
+a record is a line `LEN ROOM WORK BUF`, LEN bytes of source, and one LF";
+
+fn main() -> ExitCode {
+    let arguments: Vec<String> = std::env::args().skip(1).collect();
+    let arguments: Vec<&str> = arguments.iter().map(String::as_str).collect();
+    let result = match arguments[..] {
+        ["list"] => list(),
+        ["file"] => file(),
+        ["batch"] => batch(),
+        ["gen", seed, count] => match (seed.parse(), count.parse()) {
+            (Ok(seed), Ok(count)) => generate(seed, count),
+            _ => return usage(),
+        },
+        _ => return usage(),
+    };
+    result.unwrap_or_else(|error| {
+        eprintln!("yardstick: {error}");
+        ExitCode::from(2)
+    })
+}
+
+fn usage() -> ExitCode {
+    eprintln!("{USAGE}");
+    ExitCode::from(2)
+}
+
+fn source() -> io::Result<Vec<u8>> {
+    let mut source = Vec::new();
+    io::stdin().read_to_end(&mut source)?;
+    Ok(source)
+}
+
+fn list() -> io::Result<ExitCode> {
+    let answer = match compile(&source()?, Lent::AMPLE) {
+        Ok(compiled) => listing(&compiled.program, &compiled.table),
+        Err(refusal) => format!("{refusal}\n"),
+    };
+    io::stdout().write_all(answer.as_bytes())?;
+    Ok(ExitCode::SUCCESS)
+}
+
+fn file() -> io::Result<ExitCode> {
+    match compile(&source()?, Lent::AMPLE) {
+        Ok(compiled) => {
+            io::stdout().write_all(&compiled.file)?;
+            Ok(ExitCode::SUCCESS)
+        }
+        Err(refusal) => {
+            eprintln!("{refusal}");
+            Ok(ExitCode::FAILURE)
+        }
+    }
+}
+
+fn batch() -> io::Result<ExitCode> {
+    let mut records = BufReader::new(io::stdin().lock());
+    let mut answers = io::BufWriter::new(io::stdout().lock());
+    while let Some(record) = Record::read(&mut records)? {
+        writeln!(answers, "{}", record.answer())?;
+    }
+    answers.flush()?;
+    Ok(ExitCode::SUCCESS)
+}
+
+fn generate(seed: u64, count: u64) -> io::Result<ExitCode> {
+    let mut records = io::BufWriter::new(io::stdout().lock());
+    for record in gen::records(seed).take(count as usize) {
+        record.write(&mut records)?;
+    }
+    records.flush()?;
+    Ok(ExitCode::SUCCESS)
+}
