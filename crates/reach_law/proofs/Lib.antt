@@ -1,0 +1,5 @@
+pub mod Lists
+pub mod Order
+pub mod Reached
+pub mod Unique
+pub mod Part
