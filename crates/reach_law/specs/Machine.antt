@@ -28,6 +28,12 @@ module _ {S : Type 0} where
     pub leads : run m (m .start) by ≡ s
 
   -- "every sequence": what the states show, at s and after each input
-  abbrev pub shown : Machine S → (S → ℕ) → S → List ℕ → List ℕ
+  abbrev pub shown : {B : Type 0} → Machine S → (S → B) → S → List ℕ → List B
   shown m shows s [] = shows s ∷ []
   shown m shows s (x ∷ w) = shows s ∷ shown m shows (m .step s x) w
+
+  -- two machines that behave alike, wherever inputs lead
+  pub record Same (m n : Machine S) : Type 0 where
+    pub start : m .start ≡ n .start
+    pub inputs : m .inputs ≡ n .inputs
+    pub step : (s : S) → Reach m s → (x : ℕ) → x < m .inputs → m .step s x ≡ n .step s x

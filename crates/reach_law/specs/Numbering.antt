@@ -38,3 +38,11 @@ module _ {S : Type 0} where
   pub record Next (m : Machine S) (L : List S) (i x j : ℕ) : Type 0 where
     pub inside : j < length L
     pub leads : m .step (getD L i (m .start)) x ≡ getD L j (m .start)
+
+  -- a function of numbers that gives each of these next states
+  abbrev pub Follows : Machine S → List S → (ℕ → ℕ → ℕ) → Type 0
+  Follows m L next = (i x : ℕ) → i < length L → x < m .inputs → Next m L i x (next i x)
+
+  -- "State 0 is the start": the machine on the numbers
+  abbrev pub numbered : Machine S → (ℕ → ℕ → ℕ) → Machine ℕ
+  numbered m next = record { start = 0; step = next; inputs = m .inputs }

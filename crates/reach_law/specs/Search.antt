@@ -42,6 +42,6 @@ module _ {S : Type 0} (dec : (a b : S) → Dec (a ≡ b)) where
           | false ↦ some L
         ]
 
-    -- the start is met, and then what it leads to
+    -- from the start on, if the room holds that
     unfoldable pub find : Option (List S)
-    find = elim (meet [] (m .start)) [ none ↦ none | some L ↦ rows room 0 L ]
+    find = elim (ltb 0 room) [ true ↦ rows room 0 (m .start ∷ []) | false ↦ none ]
