@@ -1,10 +1,9 @@
 -- The search answers for every room: the numbering where it fits, and else that the states are too many.
 -- Assumes nothing.
 use mathlib.Core.Path.{_≡_, refl, subst}
-use mathlib.Core.Logic.{_⊎_, inl, inr}
 use mathlib.Core.Bool.{Bool, true, false}
 use mathlib.Core.Option.{Option, none, some}
-use mathlib.Core.List.{List, [], _∷_, _++_, List·Memᴰ, Memᴰ·cast}
+use mathlib.Core.List.{List, [], _∷_, _++_, List·Memᴰ}
 use Prim.Native.Nat.{ℕ, zero, suc, _+_, _<_, _≤_}
 use lib.Dec.{ltb}
 use lib.ListN.{length, getD, length-append}
@@ -12,7 +11,7 @@ use borrow.Author.Tests.{ltb-true, ltb-false}
 use native.Mathlib.Omega.{arith}
 use Rattle.reach_law.specs.Machine.{Machine}
 use Rattle.reach_law.specs.Count.{TooMany}
-use Rattle.reach_law.specs.Numbering.{Numbering, Answers}
+use Rattle.reach_law.specs.Numbering.{Answers}
 use Rattle.reach_law.specs.Search.{numberOf, meet, row, rows, find}
 use Rattle.reach_law.proofs.Lists.{getD-mem}
 use Rattle.reach_law.proofs.Number.{number-is, number-new}

@@ -8,3 +8,4 @@ pub mod Found
 pub mod Room
 pub mod Next
 pub mod Same
+pub mod Trials

@@ -2,14 +2,13 @@
 -- Assumes nothing.
 use mathlib.Core.Path.{_≡_, refl, sym, ap, ap₂, _∙_}
 use mathlib.Core.List.{List, [], _∷_, _++_, List·Memᴰ}
-use Prim.Native.Nat.{ℕ, _+_, _<_, _≤_}
+use Prim.Native.Nat.{ℕ, _<_}
 use lib.ListN.{length, getD, length-append, List·getD-append}
 use lib.Seq.{getD-append-seam}
 use native.Mathlib.Omega.{arith}
-use Rattle.reach_law.specs.Machine.{Machine, Inputs, run, Reach, shown}
-use Rattle.reach_law.specs.Count.{Lists}
+use Rattle.reach_law.specs.Machine.{Machine, Inputs, run, shown}
 use Rattle.reach_law.specs.Numbering.{Numbering, Next, Follows, numbered}
-use Rattle.reach_law.specs.Search.{numberOf, nextNumber}
+use Rattle.reach_law.specs.Search.{nextNumber}
 use Rattle.reach_law.proofs.Lists.{getD-mem, mem-getD, one-place}
 use Rattle.reach_law.proofs.Number.{number-below, number-is}
 use Rattle.reach_law.proofs.Part.{Row}

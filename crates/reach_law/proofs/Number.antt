@@ -3,7 +3,7 @@
 use mathlib.Core.Path.{_≡_, sym}
 use mathlib.Core.Logic.{_⊎_, inl, inr}
 use mathlib.Core.List.{List, [], _∷_, List·Memᴰ, List·Memᴰ·cases-cons, List·Memᴰ·not-nil}
-use Prim.Native.Nat.{ℕ, zero, suc, _<_, _≤_}
+use Prim.Native.Nat.{ℕ, suc, _<_, _≤_}
 use lib.ListN.{length, getD}
 use native.Mathlib.Omega.{arith}
 use Rattle.reach_law.specs.Count.{Apart}

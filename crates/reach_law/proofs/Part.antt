@@ -3,13 +3,13 @@
 use mathlib.Core.Path.{_≡_, refl, ap, sym, _∙_}
 use mathlib.Core.Logic.{_⊎_, inl, inr}
 use mathlib.Core.List.{List, [], _∷_, _++_, List·Memᴰ, List·Memᴰ·head, List·Memᴰ·append-cases, List·Memᴰ·eq-of-singleton, List·Memᴰ·not-nil, Memᴰ·append-left, Memᴰ·append-right, Memᴰ·cast}
-use Prim.Native.Nat.{ℕ, zero, suc, _+_, _<_, _≤_}
-use lib.ListN.{length, getD, take, length-append, List·getD-append}
+use Prim.Native.Nat.{ℕ, _+_, _<_, _≤_}
+use lib.ListN.{length, getD, length-append, List·getD-append}
 use lib.Seq.{take-append-le, take-append-seam, getD-append-seam}
 use native.Mathlib.Nat.{eq-or-lt-of-le}
 use native.Mathlib.Omega.{arith}
 use Rattle.reach_law.specs.Machine.{Machine, Inputs, run, Reach}
-use Rattle.reach_law.specs.Count.{Apart, Lists, TooMany}
+use Rattle.reach_law.specs.Count.{Apart, TooMany}
 use Rattle.reach_law.specs.Numbering.{Before, FirstMet, Numbering}
 use Rattle.reach_law.proofs.Reached.{reach-start, reach-step}
 use Rattle.reach_law.proofs.Order.{before-low, none-before, before-next, before-row}

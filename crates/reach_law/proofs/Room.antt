@@ -1,7 +1,7 @@
 -- The room: a larger one changes nothing, and a room is refused exactly where the count is above it.
 -- Assumes nothing.
-use mathlib.Core.Path.{_≡_, refl, sym, subst}
-use mathlib.Core.Logic.{_↔_}
+use mathlib.Core.Path.{_≡_, subst}
+use mathlib.Core.Logic.{_↔_, _⊎_, inl, inr}
 use mathlib.Core.Option.{Option, none, some}
 use mathlib.Core.List.{List}
 use Prim.Native.Nat.{ℕ, _<_, _≤_}
@@ -18,6 +18,14 @@ module _ {S : Type 0} (dec : (a b : S) → Dec (a ≡ b)) (m : Machine S) where
   -- what is said for a room is what the search finds, and nothing else
   pub answered : (room : ℕ) (a : Option (List S)) → Answers m room a ↔ (find dec m room ≡ a)
   answered room a = (λ h. one-answer m room (find dec m room) a (find-answers dec m room) h, λ e. subst (Answers m room) e (find-answers dec m room))
+
+  -- the search decides which of the two holds
+  pub decided : (room : ℕ) → ((L : List S) × Numbering m L × (length L ≤ room)) ⊎ TooMany m room
+  decided room = go (find dec m room) (find-answers dec m room)
+    where
+      go : (a : Option (List S)) → Answers m room a → ((L : List S) × Numbering m L × (length L ≤ room)) ⊎ TooMany m room
+      go none t = inr t
+      go (some L) (u, h) = inl (L, u, h)
 
   -- "reachable states above the room", exactly where the search finds no numbering
   pub refused : (room : ℕ) → TooMany m room ↔ (find dec m room ≡ none)

@@ -2,12 +2,12 @@
 -- Assumes nothing.
 use mathlib.Core.Path.{_≡_, refl, ap, sym, _∙_}
 use mathlib.Core.Option.{Option, none, some}
-use mathlib.Core.List.{List, [], _∷_, List·Memᴰ, Memᴰ·cast}
+use mathlib.Core.List.{List, List·Memᴰ, Memᴰ·cast}
 use Prim.Native.Nat.{ℕ, zero, suc, _<_, _≤_}
 use lib.ListN.{length, getD, take}
 use lib.Seq.{take-suc, take-length, getD-take}
 use native.Mathlib.Omega.{arith}
-use Rattle.reach_law.specs.Machine.{Machine, Reach}
+use Rattle.reach_law.specs.Machine.{Machine}
 use Rattle.reach_law.specs.Count.{Apart, Lists, Counted, TooMany}
 use Rattle.reach_law.specs.Numbering.{Before, FirstMet, Numbering, Answers}
 use Rattle.reach_law.proofs.Lists.{no-longer, not-before}

@@ -18,7 +18,7 @@ module _ {S : Type 0} where
     pub sound : (s : S) → List·Memᴰ s L → Reach m s
     pub whole : (s : S) → Reach m s → List·Memᴰ s L
 
-  -- "the state count": n states are reachable
+  -- "state count": n states are reachable
   pub record Counted (m : Machine S) (n : ℕ) : Type 0 where
     pub states : List S
     pub lists : Lists m states
