@@ -1,4 +1,4 @@
--- A way to compute the numbers; what they are is said in Numbering.
+-- No definition but a way to compute: what the numbers are is said in Numbering.
 -- Assumes nothing.
 use mathlib.Core.Path.{_≡_}
 use mathlib.Core.Bool.{true, false}
