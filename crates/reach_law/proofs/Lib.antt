@@ -1,0 +1,11 @@
+pub mod Lists
+pub mod Order
+pub mod Reached
+pub mod Unique
+pub mod Part
+pub mod Number
+pub mod Found
+pub mod Room
+pub mod Next
+pub mod Same
+pub mod Trials

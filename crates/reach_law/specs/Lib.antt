@@ -1,0 +1,4 @@
+pub mod Machine
+pub mod Count
+pub mod Numbering
+pub mod Search
