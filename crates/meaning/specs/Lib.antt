@@ -1,0 +1,5 @@
+pub mod Tree
+pub mod Numbers
+pub mod Tries
+pub mod Clock
+pub mod States

@@ -1,0 +1,1 @@
+// What a tree means: numbers, one clock, states. Definitions in specs/, laws in proofs/. No code.
