@@ -3,3 +3,12 @@ pub mod Numbers
 pub mod Tries
 pub mod Clock
 pub mod States
+pub mod Declared
+pub mod Items
+pub mod Checked
+pub mod Names
+pub mod Kinds
+pub mod Jumps
+pub mod Sizes
+pub mod Worst
+pub mod Faults
