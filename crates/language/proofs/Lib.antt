@@ -1,1 +1,5 @@
+pub mod Runs
+pub mod Signs
+pub mod Longest
+pub mod Cutting
 pub mod WordExamples

@@ -1,11 +1,11 @@
 -- Document 01's examples of words, and the texts that it leaves open, each cut by computation: another list, order or size is refused here.
 -- Assumes nothing.
 use mathlib.Core.Path.{_≡_, refl}
-use mathlib.Core.List.{List, [], _∷_, _++_}
+use mathlib.Core.List.{List, [], _∷_}
 use Prim.Native.Nat.{ℕ}
 use Prim.Native.String.{String}
 use Rattle.language.specs.Words.{bytes, blank, letter, digit, inName, signs, reserved, Kind, name, number, the, same, firstOf, spelled, kindOf, valueFrom, tooLarge, Word, Words, words, refused}
-use Rattle.language.specs.Scan.{span, begins, lengthOf, wordLength, nextAt, pastBlanks, nextWord, wordsFrom, wordsOf}
+use Rattle.language.specs.Scan.{span, begins, lengthOf, wordLength, nextAt, pastBlanks, nextWord, follow, wordsUpTo, wordsFrom, wordsOf}
 
 -- what an example shows: each word's kind and place, or the place of a 4
 data Seen : Type 0 where
@@ -31,6 +31,7 @@ pub record Examples : Type 0 where
   -- "`sum-5` is one name and `sum - 5` three words"
   hyphen : of "sum-5" ≡ cut (name at 0 ∷ [])
   apart : of "sum - 5" ≡ cut (name at 0 ∷ the "-" at 4 ∷ number at 6 ∷ [])
+  letters : of "a_b1-2 _" ≡ four 7
   -- a hyphen with neither letter nor digit behind it
   underscore : of "a-_b" ≡ four 2
   two-hyphens : of "a--b" ≡ cut (name at 0 ∷ the "-" at 1 ∷ the "-" at 2 ∷ name at 3 ∷ [])
@@ -62,11 +63,12 @@ pub record Examples : Type 0 where
 pub examples : Examples
 unfolding
     bytes blank letter digit inName signs reserved same firstOf spelled kindOf valueFrom tooLarge span begins lengthOf wordLength nextAt pastBlanks
-    nextWord wordsFrom wordsOf
+    nextWord follow wordsUpTo wordsFrom
 examples =
     record {
       hyphen = refl;
       apart = refl;
+      letters = refl;
       underscore = refl;
       two-hyphens = refl;
       last-hyphen = refl;

@@ -1,4 +1,4 @@
--- The words of a text, computed: what the code is held to. proofs/ShowsCut says that it is the cut of Words.
+-- The words of a text, computed: what the code is held to. proofs/Cutting says that it is the cut of Words.
 -- Assumes nothing.
 use mathlib.Core.Bool.{Bool, true, false}
 use mathlib.Core.List.{List, [], _∷_}
@@ -52,16 +52,25 @@ pastBlanks s from = from + span inBlanks (drop from s)
 unfoldable pub nextWord : List ℕ → ℕ → Next
 nextWord s from = nextAt (pastBlanks s from) (drop (pastBlanks s from) s)
 
--- the words from a place on, at most so many
-unfoldable pub wordsFrom : ℕ → List ℕ → ℕ → Words
-wordsFrom zero s from = words []
-wordsFrom (suc most) s from =
-    elim (nextWord s from) [
-      | found w ↦ before w (wordsFrom most s (w .place + length (w .bytes)))
-      | stops e ↦ refused e
-      | over ↦ words []
-    ]
+-- the place behind a word
+abbrev pub behind : Word → ℕ
+behind w = w .place + length (w .bytes)
 
--- the words of a text: each has a byte, so there are no more than its length
-unfoldable pub wordsOf : List ℕ → Words
-wordsOf s = wordsFrom (suc (length s)) s 0
+-- the words, where `rest` is what stands from each place on
+unfoldable pub follow : Next → (ℕ → Words) → Words
+follow (found w) rest = before w (rest (behind w))
+follow (stops e) rest = refused e
+follow over rest = words []
+
+-- the words from a place on, at most so many
+unfoldable pub wordsUpTo : ℕ → List ℕ → ℕ → Words
+wordsUpTo zero s from = words []
+wordsUpTo (suc most) s from = follow (nextWord s from) (wordsUpTo most s)
+
+-- .. all of them: each has a byte, so there are no more than the text's length
+unfoldable pub wordsFrom : List ℕ → ℕ → Words
+wordsFrom s from = wordsUpTo (suc (length s)) s from
+
+-- the words of a text
+abbrev pub wordsOf : List ℕ → Words
+wordsOf s = wordsFrom s 0

@@ -2,12 +2,13 @@
 -- Assumes nothing.
 use mathlib.Core.Bool.{Bool, true, false}
 use mathlib.Core.Path.{_≡_}
+use mathlib.Core.Logic.{_⊎_}
 use mathlib.Core.List.{List, [], _∷_, _++_}
 use mathlib.Core.Option.{Option, none, some}
 use Prim.Native.Char.{code}
 use Prim.Native.String.{String}
 use Prim.Native.String as Text
-use Prim.Native.Nat.{ℕ, zero, suc, _+_, _-_, _*_, _≤_}
+use Prim.Native.Nat.{ℕ, suc, _+_, _-_, _*_, _≤_}
 use lib.Dec.{leb, ltb, eqb}
 use lib.ListN.{length, getD, take, drop}
 
@@ -75,9 +76,9 @@ Run goesOn [] = Unit
 Run goesOn (c ∷ w) = (goesOn c (getD w 0 0) ≡ true) × Run goesOn w
 
 -- a string is one of a list
-pub data Among (s : String) : List String → Type 0 where
-  here : {ss : List String} → Among s (s ∷ ss)
-  later : {t : String} {ss : List String} → Among s ss → Among s (t ∷ ss)
+abbrev pub Among : String → List String → Type 0
+Among s [] = ⊥
+Among s (t ∷ ss) = (s ≡ t) ⊎ Among s ss
 
 -- what a word can be, before its size is looked at: "a name is a letter, then ..", a number is digits, a sign is one of the list
 pub data IsWord : List ℕ → Type 0 where
