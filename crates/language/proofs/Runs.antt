@@ -6,7 +6,8 @@ use mathlib.Core.List.{List, [], _∷_}
 use Prim.Native.Nat.{ℕ, zero, suc, _≤_}
 use native.Mathlib.Omega.{arith}
 use lib.ListN.{length, getD, take}
-use Rattle.language.specs.Words.{_or_, _and_, letter, digit, inName, inNumber, Run}
+use lib.Dec.{eqb}
+use Rattle.language.specs.Words.{_or_, _and_, letter, digit, underscore, hyphen, inName, inNumber, Run}
 use Rattle.language.specs.Scan.{span}
 
 pub apart : {A : Type 0} → Path Bool true false → A
@@ -94,8 +95,8 @@ pub name-steady : Steady inName
 unfolding inName letter digit
 name-steady =
     record {
-      settled = λ c d e x h k. settled-b (letter c) (digit c) _ _ (letter d) (digit d) _ _ h k;
-      whatever = λ c d h. open-b (letter c) (digit c) _ _ _ h;
+      settled = λ c d e x h k. settled-b (letter c) (digit c) (eqb c underscore) (eqb c hyphen) (letter d) (digit d) _ (eqb c hyphen and (letter x or digit x)) h k;
+      whatever = λ c d h. open-b (letter c) (digit c) (eqb c underscore) (eqb c hyphen) (eqb c hyphen and (letter d or digit d)) h;
     }
 
 pub number-steady : Steady inNumber

@@ -44,9 +44,15 @@ letter c = (leb 65 c and leb c 90) or (leb 97 c and leb c 122)
 unfoldable pub digit : ℕ → Bool
 digit c = leb 48 c and leb c 57
 
+abbrev pub underscore : ℕ
+underscore = 95
+
+abbrev pub hyphen : ℕ
+hyphen = 45
+
 -- c goes on in a name before d: "letters, digits, underscores; a hyphen belongs to it when a letter or digit follows" (d is 0 where nothing follows)
 unfoldable pub inName : ℕ → ℕ → Bool
-inName c d = letter c or (digit c or (eqb c 95 or (eqb c 45 and (letter d or digit d))))
+inName c d = letter c or (digit c or (eqb c underscore or (eqb c hyphen and (letter d or digit d))))
 
 -- the same form for the other runs of bytes, which look at no next byte
 abbrev pub inNumber : ℕ → ℕ → Bool
