@@ -1,7 +1,7 @@
 -- Every text is a program or is refused with 4 or 5 at a place, and there is one such outcome; it can be computed.
 -- Assumes nothing.
-use mathlib.Core.Path.{_≡_, refl, sym, _∙_, ap, subst}
-use mathlib.Core.List.{List, [], _∷_}
+use mathlib.Core.Path.{_≡_, sym, _∙_, ap, subst}
+use mathlib.Core.List.{List, []}
 use Prim.Native.Nat.{ℕ}
 use native.Mathlib.Omega.{arith}
 use Rattle.ll1.specs.Grammar.{Read, sentence, refused, Reads, Answers}

@@ -1,7 +1,7 @@
 -- Document 01's program, and the texts that it leaves open, each with its outcome, by computation: another rule, order or level is refused here.
 -- Assumes nothing.
-use mathlib.Core.List.{List, [], _∷_, _++_}
-use Prim.Native.Nat.{ℕ, zero, suc}
+use mathlib.Core.List.{List}
+use Prim.Native.Nat.{ℕ}
 use Prim.Native.String.{String}
 use Rattle.ll1.proofs.Tests.{has, beginRow, pick}
 use Rattle.ll1.proofs.Parser.{barred, run}
@@ -148,67 +148,4 @@ examples =
       three-equals = shows 400 _ tt;
       strange-later = shows 400 _ tt;
       strange-after = shows 400 _ tt;
-    }
-
--- ---- levels
-
-abbrev times : ℕ → List ℕ → List ℕ
-times zero s = []
-times (suc n) s = s ++ times n s
-
--- a program of n statements, each inside the one before
-abbrev nested : ℕ → String → String → String → List ℕ
-nested n opens inside closes = bytes "program p; " ++ (times n (bytes opens) ++ (bytes inside ++ (times n (bytes closes) ++ bytes " endprog")))
-
--- "levels 32 (each open compound statement, each open `(` of any use, and each `!` with its operand is one level)"
-pub record Levels : Type 0 where
-  loops : Fine (nested 32 "loop " "skip" " endloop")
-  loop-33 : Checks (nested 33 "loop " "skip" " endloop") (refuses 5 171)
-  whiles : Fine (nested 32 "while a do loop " "skip" " endloop")
-  while-33 : Checks (nested 33 "while a do loop " "skip" " endloop") (refuses 5 523)
-  ifs : Fine (nested 32 "if a then " "skip" " endif")
-  if-33 : Checks (nested 33 "if a then " "skip" " endif") (refuses 5 331)
-  switch-33 : Checks (nested 33 "switch case a: " "skip" " default: skip endswitch") (refuses 5 491)
-  parallel-33 : Checks (nested 33 "parallel " "skip" " || skip endparallel") (refuses 5 299)
-  one-after-another : Checks (nested 31 "loop " "if a then raise(a) else x := (1) endif; x := !(a) | (b)" " endloop") (refuses 5 181)
-  closed-again : Fine (nested 30 "loop " "if a then raise(a) else x := (1) endif; x := !(a) | !(b)" " endloop")
-  raised : Fine (nested 31 "loop " "raise(a)" " endloop")
-  raise-33 : Checks (nested 32 "loop " "raise(a)" " endloop") (refuses 5 176)
-  int-33 : Checks (nested 32 "loop " "x := int(a)" " endloop") (refuses 5 179)
-  condition : Checks (nested 31 "loop " "while (a) do loop skip endloop" " endloop") (refuses 5 172)
-  if-condition : Checks (nested 31 "loop " "if (a) then skip endif" " endloop") (refuses 5 169)
-  test : Checks (nested 31 "loop " "switch case (a): skip default: skip endswitch" " endloop") (refuses 5 178)
-  parentheses : Fine (bytes "program p; x := ((((((((((((((((((((((((((((((((a)))))))))))))))))))))))))))))))) endprog")
-  parenthesis-33 : Checks (bytes "program p; x := (((((((((((((((((((((((((((((((((a))))))))))))))))))))))))))))))))) endprog") (refuses 5 48)
-  nots : Fine (bytes "program p; x := !!!!!!!!!!!!!!!!!!!!!!!!!!!!!!!!a & !b endprog")
-  not-33 : Checks (bytes "program p; x := !!!!!!!!!!!!!!!!!!!!!!!!!!!!!!!!!a endprog") (refuses 5 48)
-  not-open : Checks (bytes "program p; x := !!!!!!!!!!!!!!!!!!!!!!!!!!!!!!!(a + (b)) endprog") (refuses 5 52)
-
-pub levels : Levels
-unfolding
-    bytes blank letter digit inName signs reserved same firstOf spelled kindOf valueFrom tooLarge span begins lengthOf wordLength nextAt pastBlanks
-    nextWord follow wordsUpTo wordsFrom has beginRow pick barred run binding csml claimed.claims claimed.first claimed.empty claimed.follow
-levels =
-    record {
-      loops = (_, shows 2000 _ tt);
-      loop-33 = shows 2000 _ tt;
-      whiles = (_, shows 2000 _ tt);
-      while-33 = shows 2000 _ tt;
-      ifs = (_, shows 2000 _ tt);
-      if-33 = shows 2000 _ tt;
-      switch-33 = shows 2000 _ tt;
-      parallel-33 = shows 2000 _ tt;
-      one-after-another = shows 2000 _ tt;
-      closed-again = (_, shows 2000 _ tt);
-      raised = (_, shows 2000 _ tt);
-      raise-33 = shows 2000 _ tt;
-      int-33 = shows 2000 _ tt;
-      condition = shows 2000 _ tt;
-      if-condition = shows 2000 _ tt;
-      test = shows 2000 _ tt;
-      parentheses = (_, shows 2000 _ tt);
-      parenthesis-33 = shows 2000 _ tt;
-      nots = (_, shows 2000 _ tt);
-      not-33 = shows 2000 _ tt;
-      not-open = shows 2000 _ tt;
     }

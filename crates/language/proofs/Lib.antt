@@ -6,3 +6,4 @@ pub mod WordExamples
 pub mod Claims
 pub mod Checking
 pub mod GrammarExamples
+pub mod LevelExamples

@@ -6,8 +6,8 @@ use mathlib.Core.Option.{Option, none, some}
 use Prim.Native.Nat.{ℕ, suc}
 use Prim.Native.String.{String}
 use lib.ListN.{length, getD, getElem?}
-use Rattle.ll1.specs.Grammar.{Symbol, word, part, In, Out, Row, Grammar, Read, sentence, refused, Answers}
-use Rattle.language.specs.Words.{Kind, name, number, the, Word, Words, words, Cut}
+use Rattle.ll1.specs.Grammar.{word, part, In, Out, Row, Grammar, sentence, refused, Answers}
+use Rattle.language.specs.Words.{Kind, name, number, the, Word, words, Cut}
 use Rattle.language.specs.Words as cut
 
 -- the parts of a program; Tier n is an expression of the operators that bind at n or higher, and Further n is what can follow an operand of those at n
@@ -58,12 +58,9 @@ pub data Strength : Type 0 where
 -- "Binding, lowest to highest, as 000 and 001 print it: `== != > <`; `&`; `|`; `!`; `+ -`; `* / %`."
 unfoldable pub binding : List Strength
 binding =
-    between ("==" ∷ "!=" ∷ ">" ∷ "<" ∷ [])
-    ∷ between ("&" ∷ [])
-    ∷ between ("|" ∷ [])
+    between ("==" ∷ "!=" ∷ ">" ∷ "<" ∷ []) ∷ between ("&" ∷ []) ∷ between ("|" ∷ [])
     ∷ before "!"
-    ∷ between ("+" ∷ "-" ∷ [])
-    ∷ between ("*" ∷ "/" ∷ "%" ∷ [])
+    ∷ between ("+" ∷ "-" ∷ []) ∷ between ("*" ∷ "/" ∷ "%" ∷ [])
     ∷ []
 
 -- a literal, a name, a bit, `int` of an expression, an expression in parentheses: "each open `(` of any use .. is one level"
