@@ -3,7 +3,6 @@
 use mathlib.Core.Path.{_≡_, refl, sym, _∙_, ap, ap₂, subst}
 use mathlib.Core.Logic.{_⊎_, inl, inr}
 use mathlib.Core.List.{List, [], _∷_, _++_, append-nil}
-use mathlib.Core.Option.{Option, some}
 use Prim.Native.Nat.{ℕ, zero, suc, _-_, _≤_, _<_}
 use native.Mathlib.Decide.{decLt}
 use native.Mathlib.Omega.{arith}
@@ -11,7 +10,7 @@ use lib.ListN.{length, take, drop, take-append-drop, length-append}
 use lib.Seq.{take-at}
 use Rattle.ll1.specs.Grammar.{Row, Grammar, Reads, stop, reads, rule, into, out, Sentence, Begins, Continues, TooDeep, Refused, Read, sentence, refused, Answers}
 use Rattle.ll1.proofs.Tests.{Claims, Passes}
-use Rattle.ll1.proofs.Forced.{Good, Live, good-rule, forced}
+use Rattle.ll1.proofs.Forced.{Good, live-end, same-rule, good-rule}
 use Rattle.ll1.proofs.Parser.{Answer, ok, bad, deep, tired, run, Never, Over, Right, run-right, at-rule, at-word, at-into, at-out, empty-row}
 use Rattle.ll1.proofs.Ends.{Done, finds}
 use Rattle.ll1.proofs.Whole.{shorter, beginning, continues, begun}
@@ -121,21 +120,14 @@ module _ {K P : Type 0} (C : Claims K P) (G : Grammar K P) (test : Passes C G) (
   one-answer w (refused e) (refused f) x y = ap refused (one-place w e f x y)
 
 module _ {K P : Type 0} (C : Claims K P) (G : Grammar K P) (test : Passes C G) where
-  live-end : (w : List K) → Live C G test [] w
-  live-end [] = refl
-  live-end (t ∷ w) = tt
-
-  injective : (i j : ℕ) (o : Option ℕ) → o ≡ some i → o ≡ some j → i ≡ j
-  injective i j o e f = cc
-
   -- a sentence has one derivation, and so one tree
   pub one-derivation : (j l : ℕ) {k : ℕ} {a : Row K P} {w : List K} {d e : List ℕ} → Good C a → Reads G j [] k a w d → Reads G l [] k a w e → d ≡ e
   one-derivation j l g (stop e f) y = sym (empty-row C G test l [] y f .1)
   one-derivation j l g (reads e x) y = one-derivation j l g x (at-word C G test l [] y .1)
   one-derivation j l g (rule {k = k} {n = n} {r = r} {w = w} {d = d} i h x) y =
-      let (i₁, e₁, s, h₁, y₁) = at-rule C G test l [] y (live-end w) in
-      let same : i ≡ i₁ = injective i i₁ _ (forced C G test j [] k n i r w d g h x (live-end w)) (forced C G test l [] k n i₁ r w e₁ g h₁ y₁ (live-end w)) in
+      let (i₁, e₁, s, h₁, y₁) = at-rule C G test l [] y (live-end C G test w) in
+      let same : i ≡ i₁ = same-rule C G test j l k n i i₁ r w d e₁ g h h₁ x y₁ in
       let ih : d ≡ e₁ = one-derivation j l (good-rule C G test n i r h g) x (rw (sym same) at y₁) in
       ap₂ (λ (a : ℕ) (b : List ℕ). a ∷ b) same ih ∙ sym s
-  one-derivation j l {w = w} g (into x) y = one-derivation j l (g .1) x (at-into C G test l [] y (live-end w))
-  one-derivation j l {w = w} g (out x) y = one-derivation j l g x (at-out C G test l [] y (live-end w))
+  one-derivation j l {w = w} g (into x) y = one-derivation j l (g .1) x (at-into C G test l [] y (live-end C G test w))
+  one-derivation j l {w = w} g (out x) y = one-derivation j l g x (at-out C G test l [] y (live-end C G test w))

@@ -1,7 +1,7 @@
 -- Where a grammar passes the tests, the next word forces the rule.
 -- Assumes nothing.
 use mathlib.Core.Bool.{Bool, true, false}
-use mathlib.Core.Path.{_≡_, refl, sym}
+use mathlib.Core.Path.{_≡_, refl, sym, _∙_}
 use mathlib.Core.Logic.{_⊎_, inl, inr}
 use mathlib.Core.List.{List, [], _∷_, _++_}
 use mathlib.Core.Option.{Option, none, some}
@@ -19,6 +19,9 @@ pub record Keeps {K P : Type 0} (C : Claims K P) (n : P) (p : Row K P) : Type 0 
   pub vanishes : emptyRow C p implies C .empty n ≡ true
   pub followed : follows C n p ≡ true
   pub lower : falls C n p ≡ true
+
+pub injective : (i j : ℕ) → some i ≡ some j → i ≡ j
+injective i j e = cc
 
 module _ {K P : Type 0} (C : Claims K P) where
   kept : (n : P) (p : Row K P) → keeps C n p ≡ true → Keeps C n p
@@ -130,6 +133,10 @@ module _ {K P : Type 0} (C : Claims K P) where
     Live b [] = b ≡ []
     Live b (t ∷ w) = Unit
 
+    pub live-end : (w : List K) → Live [] w
+    live-end [] = refl
+    live-end (t ∷ w) = tt
+
     -- the next word is one that the row can begin with
     begins : (j : ℕ) (b : Row K P) {k : ℕ} {a : Row K P} {w : List K} {d : List ℕ} → Reads G j b k a w d → Live b w → has C (beginRow C (none ∷ []) a) (look w) ≡ true
     unfolding beginRow
@@ -145,3 +152,8 @@ module _ {K P : Type 0} (C : Claims K P) where
     forced j b k n i r w d g h x l =
         pick-at n (look w) i h
         (begin-mono C (beginRow C (none ∷ []) r) (C .follow n) (rowAt G n i) (look w) (g .0 (look w)) (rw (begin-append C (none ∷ []) (rowAt G n i) r) at (begins j b x l)))
+
+    -- two derivations of one sentence take the same rule
+    pub same-rule : (j l : ℕ) (k : ℕ) (n : P) (i o : ℕ) (r : Row K P) (w : List K) (d e : List ℕ) → Good (part n ∷ r) → i < length (G n) → o < length (G n)
+        → Reads G j [] k (rowAt G n i ++ r) w d → Reads G l [] k (rowAt G n o ++ r) w e → i ≡ o
+    same-rule j l k n i o r w d e g h h₁ x y = injective i o (sym (forced j [] k n i r w d g h x (live-end w)) ∙ forced l [] k n o r w e g h₁ y (live-end w))

@@ -5,3 +5,5 @@ pub mod Parser
 pub mod Ends
 pub mod Whole
 pub mod Answered
+pub mod Derived
+pub mod OneValue

@@ -10,7 +10,7 @@ use lib.ListN.{length}
 use Rattle.ll1.specs.Grammar.{word, part, In, Out, Row, Grammar, rowAt, Reads, stop, reads, rule, into, out, Sentence, Begins}
 use Rattle.ll1.proofs.Tests.{Claims, pick, Passes, look, opensWord}
 use Rattle.ll1.proofs.Sets.{clash}
-use Rattle.ll1.proofs.Forced.{Good, Live, good-rule, forced, picked-at}
+use Rattle.ll1.proofs.Forced.{Good, Live, live-end, injective, good-rule, forced, picked-at}
 
 -- the rules; the words from the first with which no sentence goes on; those from the first that opens a level too many; or that the steps did not do
 pub data Answer (K : Type 0) : Type 0 where
@@ -132,10 +132,6 @@ module _ {K P : Type 0} (C : Claims K P) (G : Grammar K P) (test : Passes C G) w
     live b [] t = tt
     live b (x ∷ u) t = tt
 
-    live-all : (u : List K) → Live C G test [] u
-    live-all [] = refl
-    live-all (x ∷ u) = tt
-
     step-begins : (k : ℕ) (u : List K) → Begins G (m k) c u → Begins G (l k) a u
     step-begins k u (d, j, b, x) = let (e, y) = s .to k j b u d x in (e, j, b, y)
 
@@ -145,7 +141,7 @@ module _ {K P : Type 0} (C : Claims K P) (G : Grammar K P) (test : Passes C G) w
     never : (u v : List K) → w ≡ u ++ v → Never c u v → Never a u v
     never u [] e n = λ k g. let (d, j, x) = g in
         let (i, o, y) = s .covers k j [] u d x in
-        let (f, z) = s .from i o [] u d (ap look (sym (append-nil u) ∙ sym e)) (live-all u) y in
+        let (f, z) = s .from i o [] u d (ap look (sym (append-nil u) ∙ sym e)) (live-end C G test u) y in
         n (m i) (f, o, z)
     never u (t ∷ v) e n = λ k g. let (d, j, b, x) = g in let (i, o, y) = s .covers k j b (u ++ (t ∷ [])) d x in n (m i) (back i u v t e (d, o, b, y))
 
@@ -177,9 +173,6 @@ module _ {K P : Type 0} (C : Claims K P) (G : Grammar K P) (test : Passes C G) w
         from = λ k j b u d e l x. (d, at-out j b x l);
         covers = λ k j b u d x. (k, j, x);
       }
-
-  injective : (i j : ℕ) → some i ≡ some j → i ≡ j
-  injective i j e = cc
 
   rule-step : (n : P) (i : ℕ) (r : Row K P) (w : List K) → Good C (part n ∷ r) → pick C n (look w) 0 (G n) ≡ some i → Step (part n ∷ r) (rowAt G n i ++ r) w same same
   rule-step n i r w g p =
