@@ -2,11 +2,14 @@
 -- Assumes nothing.
 use mathlib.Core.Path.{_≡_, sym, _∙_, ap, subst}
 use mathlib.Core.List.{List, []}
-use Prim.Native.Nat.{ℕ}
+use Prim.Native.Nat.{ℕ, suc, _<_}
 use native.Mathlib.Omega.{arith}
-use Rattle.ll1.specs.Grammar.{Read, sentence, refused, Reads, Answers}
+use lib.ListN.{length, take}
+use mathlib.Core.Logic.{_⊎_}
+use Rattle.ll1.specs.Grammar.{Read, sentence, refused, Reads, Continues, TooDeep, Answers}
 use Rattle.ll1.proofs.Parser.{Answer, run}
 use Rattle.ll1.proofs.Ends.{Done}
+use Rattle.ll1.proofs.Whole.{continues}
 use Rattle.ll1.proofs.Answered.{answerOf, computed, answered, one-answer, one-derivation}
 use Rattle.language.specs.Words.{Kind, Word, Words, words, Cut}
 use Rattle.language.specs.Words as cut
@@ -21,6 +24,14 @@ reading ks = answered claims csml passes mostLevels wholeProgram ks program-good
 
 pub one-reading : (ks : List Kind) (r q : Read) → Answers csml mostLevels wholeProgram ks r → Answers csml mostLevels wholeProgram ks q → r ≡ q
 one-reading = one-answer claims csml passes mostLevels wholeProgram
+
+-- what stands before a refusal can be continued to a program, and with what stands there none can be, or it opens level 33
+pub before-continues : (ks : List Kind) (e : ℕ) → Answers csml mostLevels wholeProgram ks (refused e) → Continues csml wholeProgram (take e ks)
+before-continues ks e x = continues csml claims passes mostLevels wholeProgram (take e ks) (x .before)
+
+pub here-not : (ks : List Kind) (e : ℕ) → Answers csml mostLevels wholeProgram ks (refused e) → e < length ks
+    → (¬ (Continues csml wholeProgram (take (suc e) ks))) ⊎ TooDeep csml mostLevels wholeProgram (take (suc e) ks)
+here-not ks e x h = x .here h
 
 pub one-tree : (j l : ℕ) (ks : List Kind) (d e : List ℕ) → Reads csml j [] mostLevels wholeProgram ks d → Reads csml l [] mostLevels wholeProgram ks e → d ≡ e
 one-tree j l ks d e x y = one-derivation claims csml passes j l program-good x y

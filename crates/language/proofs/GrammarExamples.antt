@@ -53,6 +53,7 @@ pub record Examples : Type 0 where
   not-parted : Five "program p; skip skip endprog" 16
   -- targets
   targets : Good "program p; raise(a); lower(x[1]); invert(a); x := x[1] endprog"
+  delayed : Good "program p; delay 0; delay 65535 endprog"
   bit-assigned : Five "program p; x[1] := 1 endprog" 12
   raised-number : Five "program p; raise(1) endprog" 17
   raised-twice : Five "program p; raise((a)) endprog" 17
@@ -117,6 +118,7 @@ examples =
       no-body = shows 400 _ tt;
       not-parted = shows 400 _ tt;
       targets = (_, shows 400 _ tt);
+      delayed = (_, shows 400 _ tt);
       bit-assigned = shows 400 _ tt;
       raised-number = shows 400 _ tt;
       raised-twice = shows 400 _ tt;
