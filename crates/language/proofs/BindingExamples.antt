@@ -1,0 +1,148 @@
+-- How operators bind and group: each expression with parentheses around every operator and its operands, by computation. Another order, or grouping from the right, is refused here.
+-- Assumes nothing.
+use mathlib.Core.Path.{_≡_, refl}
+use mathlib.Core.List.{List, [], _∷_, _++_, map}
+use mathlib.Core.Option.{Option, none, some}
+use Prim.Native.Nat.{ℕ, suc}
+use Prim.Native.String.{String}
+use lib.ListN.{getD, getElem?}
+use Rattle.ll1.specs.Grammar.{Sentence}
+use Rattle.ll1.specs.Values.{Makes, make, front, back, nothing, valuesOf}
+use Rattle.ll1.proofs.Tests.{has, beginRow, pick}
+use Rattle.ll1.proofs.Derived.{after-word, after-rule, by-rule, after-into, after-out, derived}
+use Rattle.language.specs.Words.{bytes, blank, letter, digit, inName, signs, reserved, same, firstOf, spelled, kindOf, valueFrom, tooLarge, Kind, Word, Words, words, refused}
+use Rattle.language.specs.Scan.{span, begins, lengthOf, wordLength, nextAt, pastBlanks, nextWord, follow, wordsUpTo, wordsFrom, wordsOf}
+use Rattle.language.specs.Grammar.{Part, Program, Declarations, Declaration, Inputs, MoreInputs, Ending, Booleans, MoreBooleans, BooleanStart, BooleanValue, Integers, MoreIntegers, IntegerStart, Statements, AfterStatement, NextStatement, Statement, Else, Cases, Branches, Target, Index, Tier, Further, Expression, Line, ε, _▸_, _▹_, Strength, between, before, binding, csml, tier, further, mostLevels, kinds}
+use Rattle.language.proofs.Claims as claimed
+
+-- an expression is worth its bytes in parentheses; what follows an operand waits for that operand
+abbrev Worth : Part → Type 0
+Worth Program = Unit
+Worth Declarations = Unit
+Worth Declaration = Unit
+Worth Inputs = Unit
+Worth MoreInputs = Unit
+Worth Ending = Unit
+Worth Booleans = Unit
+Worth MoreBooleans = Unit
+Worth BooleanStart = Unit
+Worth BooleanValue = Unit
+Worth Integers = Unit
+Worth MoreIntegers = Unit
+Worth IntegerStart = Unit
+Worth Statements = Unit
+Worth AfterStatement = Unit
+Worth NextStatement = Unit
+Worth Statement = Unit
+Worth Else = Unit
+Worth Cases = Unit
+Worth Branches = Unit
+Worth Target = Unit
+Worth Index = List ℕ
+Worth (Tier n) = List ℕ
+Worth (Further n) = List ℕ → List ℕ
+
+abbrev inside : List ℕ → List ℕ
+inside s = bytes "(" ++ (s ++ bytes ")")
+
+abbrev ignored : (rows : List Line) → Makes (List ℕ) Worth Unit rows
+ignored [] = tt
+ignored (r ∷ rows) = (λ v. tt, ignored rows)
+
+abbrev tier-makes : (n : ℕ) (o : Option Strength) → Makes (List ℕ) Worth (List ℕ) (tier n o)
+tier-makes n (some (between ops)) = (λ v. v .1 .0 (v .0), tt)
+tier-makes n (some (before op)) = (λ v. inside (v .0 ++ v .1 .0), (λ v. v .0, tt))
+tier-makes n none = (λ v. v .0 ++ v .1 .0, (λ v. v .0, (λ v. v .0, (λ v. v .0, (λ v. v .0 ++ inside (v .1 .1 .0), (λ v. v .1 .0, tt))))))
+
+abbrev each : (n : ℕ) (ops : List String) → Makes (List ℕ) Worth (List ℕ → List ℕ) (map (λ op. _▸_ op (Tier (suc n) ▹ Further n ▹ ε)) ops)
+each n [] = tt
+each n (op ∷ ops) = (λ v a. v .1 .1 .0 (inside (a ++ (v .0 ++ v .1 .0))), each n ops)
+
+abbrev further-makes : (n : ℕ) (o : Option Strength) → Makes (List ℕ) Worth (List ℕ → List ℕ) (further n o)
+further-makes n (some (between ops)) = (λ v a. a, each n ops)
+further-makes n (some (before op)) = (λ v a. a, tt)
+further-makes n none = (λ v a. a, tt)
+
+unfoldable makes : (n : Part) → Makes (List ℕ) Worth (Worth n) (csml n)
+unfolding csml
+makes Program = ignored (csml Program)
+makes Declarations = ignored (csml Declarations)
+makes Declaration = ignored (csml Declaration)
+makes Inputs = ignored (csml Inputs)
+makes MoreInputs = ignored (csml MoreInputs)
+makes Ending = ignored (csml Ending)
+makes Booleans = ignored (csml Booleans)
+makes MoreBooleans = ignored (csml MoreBooleans)
+makes BooleanStart = ignored (csml BooleanStart)
+makes BooleanValue = ignored (csml BooleanValue)
+makes Integers = ignored (csml Integers)
+makes MoreIntegers = ignored (csml MoreIntegers)
+makes IntegerStart = ignored (csml IntegerStart)
+makes Statements = ignored (csml Statements)
+makes AfterStatement = ignored (csml AfterStatement)
+makes NextStatement = ignored (csml NextStatement)
+makes Statement = ignored (csml Statement)
+makes Else = ignored (csml Else)
+makes Cases = ignored (csml Cases)
+makes Branches = ignored (csml Branches)
+makes Target = ignored (csml Target)
+makes Index = (λ v. [], (λ v. v .0 ++ (v .1 .0 ++ v .1 .1 .0), tt))
+makes (Tier n) = tier-makes n (getElem? binding n)
+makes (Further n) = further-makes n (getElem? binding n)
+
+abbrev listed : Words → List Word
+listed (words ws) = ws
+listed (refused e) = []
+
+-- an expression, and the word behind it
+abbrev start : Line
+start = Expression ▹ ")" ▸ ε
+
+abbrev worth : (ks : List Kind) (text : List (List ℕ)) → Option (Sentence csml mostLevels start ks) → List ℕ
+worth ks text (some x) = valuesOf (List ℕ) Worth csml makes (λ m. getD text m []) (x .1) (x .2) 0 .0
+worth ks text none = []
+
+abbrev of : List Word → List ℕ
+of ws = worth (kinds ws) (map (λ w. w .bytes) ws) (derived claimed.claims csml claimed.passes 400 mostLevels start (kinds ws))
+
+abbrev _means_ : String → String → Type 0
+s means t = of (listed (wordsOf (bytes s ++ bytes ")"))) ≡ bytes t
+
+infix 20 _means_
+pub record Examples : Type 0 where
+  -- "Binding, lowest to highest, as 000 and 001 print it"
+  printed : "newcard > 10 & newcard < 14" means "((newcard>(10&newcard))<14)"
+  and-or : "a & b | c" means "(a&(b|c))"
+  or-and : "a | b & c" means "((a|b)&c)"
+  equal-and : "a & b == c | d" means "((a&b)==(c|d))"
+  not-or : "!a | !b" means "((!a)|(!b))"
+  not-sum : "!x + 1 > 2" means "((!(x+1))>2)"
+  sum-product : "a + b * c - d % e" means "((a+(b*c))-(d%e))"
+  -- "Binary operators group from the left"
+  compared : "a == b != c > d < e" means "((((a==b)!=c)>d)<e)"
+  minus : "a - b - c" means "((a-b)-c)"
+  divided : "a / b * c % d" means "(((a/b)*c)%d)"
+  ors : "a | b | c" means "((a|b)|c)"
+  -- parentheses, `int` and bits
+  parentheses : "(a & b) | int(x[2] - 1)" means "((a&b)|int((x[2]-1)))"
+
+pub examples : Examples
+unfolding
+    bytes blank letter digit inName signs reserved same firstOf spelled kindOf valueFrom tooLarge span begins lengthOf wordLength nextAt pastBlanks
+    nextWord follow wordsUpTo wordsFrom has beginRow pick binding csml claimed.claims claimed.first claimed.empty claimed.follow
+    after-word after-rule by-rule after-into after-out derived make front back nothing valuesOf makes
+examples =
+    record {
+      printed = refl;
+      and-or = refl;
+      or-and = refl;
+      equal-and = refl;
+      not-or = refl;
+      not-sum = refl;
+      sum-product = refl;
+      compared = refl;
+      minus = refl;
+      divided = refl;
+      ors = refl;
+      parentheses = refl;
+    }

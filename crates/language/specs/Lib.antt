@@ -1,0 +1,3 @@
+pub mod Words
+pub mod Scan
+pub mod Grammar

@@ -1,0 +1,174 @@
+-- The words of a text: document 01, "Words (house)", and refusal 4.
+-- Assumes nothing.
+use mathlib.Core.Bool.{Bool, true, false}
+use mathlib.Core.Path.{_≡_}
+use mathlib.Core.Logic.{_⊎_}
+use mathlib.Core.List.{List, [], _∷_, _++_}
+use mathlib.Core.Option.{Option, none, some}
+use Prim.Native.Char.{code}
+use Prim.Native.String.{String}
+use Prim.Native.String as Text
+use Prim.Native.Nat.{ℕ, suc, _+_, _-_, _*_, _≤_}
+use lib.Dec.{leb, ltb, eqb}
+use lib.ListN.{length, getD, take, drop}
+
+-- ---- bytes
+
+-- the bytes of a text that is written out here, in ASCII
+unfoldable pub bytes : String → List ℕ
+bytes Text.[] = []
+bytes (Text._∷_ c s) = code c ∷ bytes s
+
+abbrev pub _or_ : Bool → Bool → Bool
+true or b = true
+false or b = b
+
+abbrev pub _and_ : Bool → Bool → Bool
+true and b = b
+false and b = false
+
+infixr 30 _or_
+infixr 40 _and_
+abbrev pub choose {ℓ} : {A : Type ℓ} → Bool → A → A → A
+choose true a b = a
+choose false a b = b
+
+-- "blanks (space, tab, LF, CR)"
+unfoldable pub blank : ℕ → Bool
+blank c = eqb c 32 or (eqb c 9 or (eqb c 10 or eqb c 13))
+
+-- a letter; house: one of ASCII
+unfoldable pub letter : ℕ → Bool
+letter c = (leb 65 c and leb c 90) or (leb 97 c and leb c 122)
+
+unfoldable pub digit : ℕ → Bool
+digit c = leb 48 c and leb c 57
+
+abbrev pub underscore : ℕ
+underscore = 95
+
+abbrev pub hyphen : ℕ
+hyphen = 45
+
+-- c goes on in a name before d: "letters, digits, underscores; a hyphen belongs to it when a letter or digit follows" (d is 0 where nothing follows)
+unfoldable pub inName : ℕ → ℕ → Bool
+inName c d = letter c or (digit c or (eqb c underscore or (eqb c hyphen and (letter d or digit d))))
+
+-- the same form for the other runs of bytes, which look at no next byte
+abbrev pub inNumber : ℕ → ℕ → Bool
+inNumber c d = digit c
+
+abbrev pub inBlanks : ℕ → ℕ → Bool
+inBlanks c d = blank c
+
+-- ---- which words there are
+
+-- the signs, a longer one before a shorter one that it begins with: "`||` before `|`, `!=` before `!`, `==` before `=`"; "`.H` and `.L` are one word each"
+unfoldable pub signs : List String
+signs = "||" ∷ "|" ∷ "!=" ∷ "!" ∷ "==" ∷ "=" ∷ ":=" ∷ ":" ∷ ".H" ∷ ".L" ∷ ";" ∷ "," ∷ "(" ∷ ")" ∷ "[" ∷ "]" ∷ ">" ∷ "<" ∷ "&" ∷ "+" ∷ "-" ∷ "*" ∷ "/" ∷ "%" ∷ []
+
+-- "keywords, `true`, `false` and `int` are never names"; the last line is "Not yet: .. Their keywords are reserved"
+unfoldable pub reserved : List String
+reserved =
+    "program" ∷ "endprog" ∷ "input" ∷ "output" ∷ "internal" ∷ "integer" ∷ "true" ∷ "false" ∷ "int"
+    ∷ "skip" ∷ "delay" ∷ "raise" ∷ "lower" ∷ "invert" ∷ "if" ∷ "then" ∷ "else" ∷ "endif" ∷ "while" ∷ "do" ∷ "loop" ∷ "endloop" ∷ "exit"
+    ∷ "switch" ∷ "case" ∷ "default" ∷ "endswitch" ∷ "break" ∷ "parallel" ∷ "endparallel"
+    ∷ "procedure" ∷ "endproc" ∷ "process" ∷ "processtype" ∷ "endtype" ∷ "compress" ∷ "endcompress"
+    ∷ []
+
+-- every byte goes on before the next one, the last before nothing
+abbrev pub Run : (ℕ → ℕ → Bool) → List ℕ → Type 0
+Run goesOn [] = Unit
+Run goesOn (c ∷ w) = (goesOn c (getD w 0 0) ≡ true) × Run goesOn w
+
+-- a string is one of a list
+abbrev pub Among : String → List String → Type 0
+Among s [] = ⊥
+Among s (t ∷ ss) = (s ≡ t) ⊎ Among s ss
+
+-- what a word can be, before its size is looked at: "a name is a letter, then ..", a number is digits, a sign is one of the list
+pub data IsWord : List ℕ → Type 0 where
+  aName : (c : ℕ) (w : List ℕ) → letter c ≡ true → Run inName w → IsWord (c ∷ w)
+  aNumber : (c : ℕ) (w : List ℕ) → digit c ≡ true → Run inNumber w → IsWord (c ∷ w)
+  aSign : (s : String) (w : List ℕ) → Among s signs → w ≡ bytes s → IsWord w
+
+-- "The longest word is taken": the first n bytes are a word, and no more of them are
+pub record Longest (l : List ℕ) (n : ℕ) : Type 0 where
+  pub inside : n ≤ length l
+  pub word : IsWord (take n l)
+  pub most : (m : ℕ) → m ≤ length l → IsWord (take m l) → m ≤ n
+
+-- the kinds of words: a name, a number, and each sign and each reserved word by its spelling
+pub data Kind : Type 0 where
+  name number : Kind
+  the : String → Kind
+
+-- the same bytes
+unfoldable pub same : List ℕ → List ℕ → Bool
+same [] [] = true
+same [] (y ∷ v) = false
+same (x ∷ w) [] = false
+same (x ∷ w) (y ∷ v) = eqb x y and same w v
+
+-- the first of some spellings whose bytes pass a test
+unfoldable pub firstOf : (List ℕ → Bool) → List String → Option String
+firstOf test [] = none
+firstOf test (s ∷ ss) = elim (test (bytes s)) [ true ↦ some s | false ↦ firstOf test ss ]
+
+unfoldable pub spelled : Option String → Kind → Kind
+spelled (some s) k = the s
+spelled none k = k
+
+-- the kind of a word, by its bytes
+unfoldable pub kindOf : List ℕ → Kind
+kindOf w = spelled (firstOf (same w) (signs ++ reserved)) (choose (digit (getD w 0 0)) number name)
+
+-- "Names are .. 1 to 16 bytes"
+abbrev pub longestName : ℕ
+longestName = 16
+
+-- "a number's value is at most 65,535"
+abbrev pub largestNumber : ℕ
+largestNumber = 65535
+
+-- the value of digits, after others that come to v
+unfoldable pub valueFrom : ℕ → List ℕ → ℕ
+valueFrom v [] = v
+valueFrom v (c ∷ w) = valueFrom (v * 10 + (c - 48)) w
+
+abbrev pub valueOf : List ℕ → ℕ
+valueOf w = valueFrom 0 w
+
+-- "name or number too large"
+unfoldable pub tooLarge : Kind → List ℕ → Bool
+tooLarge name w = ltb longestName (length w)
+tooLarge number w = ltb largestNumber (valueOf w)
+tooLarge (the s) w = false
+
+-- ---- the words of a text
+
+-- a word: its kind, the place of its first byte, its bytes
+pub record Word : Type 0 where
+  pub kind : Kind
+  pub place : ℕ
+  pub bytes : List ℕ
+
+-- the words in order; or refusal 4's place: "no word starts here, name or number too large | that byte or word"
+pub data Words : Type 0 where
+  words : List Word → Words
+  refused : ℕ → Words
+
+abbrev pub before : Word → Words → Words
+before w (words ws) = words (w ∷ ws)
+before w (refused e) = refused e
+
+abbrev pub wordAt : ℕ → List ℕ → Word
+wordAt at w = record { kind = kindOf w; place = at; bytes = w }
+
+-- how a text is cut from `at` on, where l stands: blanks part words, each word is the longest, and a 4 ends the cut
+pub data Cut : ℕ → List ℕ → Words → Type 0 where
+  ends : {at : ℕ} → Cut at [] (words [])
+  skips : {at c : ℕ} {l : List ℕ} {r : Words} → blank c ≡ true → Cut (suc at) l r → Cut at (c ∷ l) r
+  takes : {at : ℕ} {l : List ℕ} {r q : Words} (n : ℕ) → Longest l n → tooLarge (kindOf (take n l)) (take n l) ≡ false → Cut (at + n) (drop n l) q → r ≡ before (wordAt at (take n l)) q → Cut at l r
+  large : {at : ℕ} {l : List ℕ} (n : ℕ) → Longest l n → tooLarge (kindOf (take n l)) (take n l) ≡ true → Cut at l (refused at)
+  strange : {at c : ℕ} {l : List ℕ} → blank c ≡ false → ((n : ℕ) → ¬ (IsWord (take n (c ∷ l)))) → Cut at (c ∷ l) (refused at)

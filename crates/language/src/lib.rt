@@ -1,0 +1,1 @@
+// The language of document 01: definitions in specs/, laws in proofs/. No code.

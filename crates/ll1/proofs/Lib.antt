@@ -1,0 +1,9 @@
+pub mod Tests
+pub mod Sets
+pub mod Forced
+pub mod Parser
+pub mod Ends
+pub mod Whole
+pub mod Answered
+pub mod Derived
+pub mod OneValue
