@@ -1,6 +1,6 @@
 -- The words that are computed are the cut of the text, there is no other cut, and where its words lie.
 -- Assumes nothing.
-use mathlib.Core.Bool.{Bool, true, false}
+use mathlib.Core.Bool.{Bool, true, false, cond}
 use mathlib.Core.Path.{_≡_, refl, sym, _∙_, ap, ap₂, subst}
 use mathlib.Core.List.{List, [], _∷_}
 use Prim.Native.Nat.{ℕ, zero, suc, _+_, _≤_, _<_}
@@ -12,7 +12,7 @@ use native.Mathlib.Numerals.{add-one}
 use lib.Seq.{length-take-le, drop-drop, getD-drop}
 use lib.Dec.{eqb}
 use borrow.Author.Tests.{eq-eqb, ne-eqb}
-use Rattle.language.specs.Words.{choose, blank, inBlanks, IsWord, Longest, kindOf, tooLarge, Word, wordAt, Words, words, refused, before, Cut, ends, skips, takes, large, strange}
+use Rattle.language.specs.Words.{blank, inBlanks, IsWord, Longest, kindOf, tooLarge, Word, wordAt, Words, words, refused, before, Cut, ends, skips, takes, large, strange}
 use Rattle.language.specs.Scan.{span, wordLength, found, stops, over, nextAt, pastBlanks, nextWord, behind, follow, wordsUpTo, wordsFrom, wordsOf}
 use Rattle.language.proofs.Runs.{apart, span-fits}
 use Rattle.language.proofs.Longest.{Takes, longest-taken, blank-none, no-empty-word}
@@ -91,13 +91,13 @@ next-cut at (c ∷ l) b rest x = go (longest-taken c l)
     n = wordLength (c ∷ l)
 
     sized : 0 < n → Longest (c ∷ l) n → (t : Bool) → tooLarge (kindOf (take n (c ∷ l))) (take n (c ∷ l)) ≡ t
-        → Cut at (c ∷ l) (follow (choose t (stops at) (found (wordAt at (take n (c ∷ l))))) rest)
+        → Cut at (c ∷ l) (follow (cond t (stops at) (found (wordAt at (take n (c ∷ l))))) rest)
     sized h y true e = large n y e
     sized h y false e =
         let long : length (take n (c ∷ l)) ≡ n = length-take-le n (c ∷ l) (y .inside) in
         takes n y e (x n h (y .inside)) (ap (λ (i : ℕ). before (wordAt at (take n (c ∷ l))) (rest (at + i))) long)
 
-    go : Takes (c ∷ l) n → Cut at (c ∷ l) (follow (choose (eqb n 0) (stops at) (choose (tooLarge (kindOf (take n (c ∷ l))) (take n (c ∷ l))) (stops at) (found (wordAt at (take n (c ∷ l)))))) rest)
+    go : Takes (c ∷ l) n → Cut at (c ∷ l) (follow (cond (eqb n 0) (stops at) (cond (tooLarge (kindOf (take n (c ∷ l))) (take n (c ∷ l))) (stops at) (found (wordAt at (take n (c ∷ l)))))) rest)
     go (Takes.word h y) = rw (ne-eqb n 0 (λ e. omega arith)) (sized h y (tooLarge (kindOf (take n (c ∷ l))) (take n (c ∷ l))) refl)
     go (Takes.nothing h y) = rw (eq-eqb n 0 h) (strange b y)
 

@@ -1,6 +1,6 @@
 -- The word that is taken is the longest that the text begins with, whatever its kind; where none is taken none begins the text.
 -- Assumes nothing.
-use mathlib.Core.Bool.{Bool, true, false}
+use mathlib.Core.Bool.{Bool, true, false, _&&_, _||_, cond}
 use mathlib.Core.Path.{_≡_, refl, sym, _∙_, ap, subst}
 use mathlib.Core.List.{List, [], _∷_, cons≢nil, head-eq-of-cons-eq, tail-eq-of-cons-eq}
 use mathlib.Core.Option.{Option, none, some}
@@ -11,7 +11,7 @@ use lib.ListN.{length, getD, take}
 use lib.Seq.{length-take-le}
 use lib.Dec.{leb, eqb}
 use borrow.Author.Tests.{leb-true, eqb-true}
-use Rattle.language.specs.Words.{bytes, _or_, _and_, choose, blank, letter, digit, inName, inNumber, signs, Run, Among, IsWord, aName, aNumber, aSign, Longest, firstOf}
+use Rattle.language.specs.Words.{bytes, blank, letter, digit, inName, inNumber, signs, Run, Among, IsWord, aName, aNumber, aSign, Longest, firstOf}
 use Rattle.language.specs.Scan.{span, begins, lengthOf, wordLength}
 use Rattle.language.proofs.Runs.{apart, and-left, and-right, span-fits, run-is, run-most, span-at, name-steady, number-steady}
 use Rattle.language.proofs.Signs.{begins-take, taken, fits, sign-plain, Taken, longest, sign-taken}
@@ -21,7 +21,7 @@ letter-high : (c : ℕ) → letter c ≡ true → 65 ≤ c
 unfolding letter
 letter-high c e = go (leb 65 c) (leb c 90) (leb 97 c) (leb c 122) e (leb-true 65 c) (leb-true 97 c)
   where
-    go : (a b d f : Bool) → (a and b) or (d and f) ≡ true → (a ≡ true → 65 ≤ c) → (d ≡ true → 97 ≤ c) → 65 ≤ c
+    go : (a b d f : Bool) → (a && b) || (d && f) ≡ true → (a ≡ true → 65 ≤ c) → (d ≡ true → 97 ≤ c) → 65 ≤ c
     go true b d f e x y = x refl
     go false b true f e x y = omega (arith, y refl)
     go false b false f e x y = apart (sym e)
@@ -34,7 +34,7 @@ blank-low : (c : ℕ) → blank c ≡ true → c ≤ 32
 unfolding blank
 blank-low c e = go (eqb c 32) (eqb c 9) (eqb c 10) (eqb c 13) e (eqb-true c 32) (eqb-true c 9) (eqb-true c 10) (eqb-true c 13)
   where
-    go : (a b d f : Bool) → a or (b or (d or f)) ≡ true → (a ≡ true → c ≡ 32) → (b ≡ true → c ≡ 9) → (d ≡ true → c ≡ 10) → (f ≡ true → c ≡ 13) → c ≤ 32
+    go : (a b d f : Bool) → a || (b || (d || f)) ≡ true → (a ≡ true → c ≡ 32) → (b ≡ true → c ≡ 9) → (d ≡ true → c ≡ 10) → (f ≡ true → c ≡ 13) → c ≤ 32
     go true b d f e x y z w = omega (arith, x refl)
     go false true d f e x y z w = omega (arith, y refl)
     go false false true f e x y z w = omega (arith, z refl)
@@ -122,7 +122,7 @@ pub longest-taken : (c : ℕ) (l : List ℕ) → Takes (c ∷ l) (wordLength (c 
 unfolding wordLength
 longest-taken c l = go (letter c) (digit c) refl refl
   where
-    go : (a b : Bool) → letter c ≡ a → digit c ≡ b → Takes (c ∷ l) (choose a (span inName (c ∷ l)) (choose b (span inNumber (c ∷ l)) (lengthOf (firstOf (begins (c ∷ l)) signs))))
+    go : (a b : Bool) → letter c ≡ a → digit c ≡ b → Takes (c ∷ l) (cond a (span inName (c ∷ l)) (cond b (span inNumber (c ∷ l)) (lengthOf (firstOf (begins (c ∷ l)) signs))))
     go true b h k = name-taken c l h
     go false true h k = number-taken c l k
     go false false h k = sign-is c l h k (sign-taken (c ∷ l))

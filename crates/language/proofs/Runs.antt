@@ -1,23 +1,23 @@
 -- A run of bytes that go on, each before the next: the longest such beginning of a text.
 -- Assumes nothing.
-use mathlib.Core.Bool.{Bool, true, false, true≢false}
+use mathlib.Core.Bool.{Bool, true, false, true≢false, _&&_, _||_}
 use mathlib.Core.Path.{_≡_, refl, sym, _∙_}
 use mathlib.Core.List.{List, [], _∷_}
 use Prim.Native.Nat.{ℕ, zero, suc, _≤_}
 use native.Mathlib.Omega.{arith}
 use lib.ListN.{length, getD, take}
 use lib.Dec.{eqb}
-use Rattle.language.specs.Words.{_or_, _and_, letter, digit, underscore, hyphen, inName, inNumber, Run}
+use Rattle.language.specs.Words.{letter, digit, underscore, hyphen, inName, inNumber, Run}
 use Rattle.language.specs.Scan.{span}
 
 pub apart : {A : Type 0} → Path Bool true false → A
 apart e = absurd (true≢false e)
 
-pub and-left : (a b : Bool) → a and b ≡ true → a ≡ true
+pub and-left : (a b : Bool) → a && b ≡ true → a ≡ true
 and-left true b e = refl
 and-left false b e = apart (sym e)
 
-pub and-right : (a b : Bool) → a and b ≡ true → b ≡ true
+pub and-right : (a b : Bool) → a && b ≡ true → b ≡ true
 and-right true b e = e
 and-right false b e = apart (sym e)
 
@@ -75,7 +75,7 @@ module _ (goesOn : ℕ → ℕ → Bool) (steady : Steady goesOn) where
 
 -- ---- the three runs
 
-settled-b : (a b u h l d r q : Bool) → a or (b or (u or (h and (l or d)))) ≡ true → l or (d or r) ≡ false → a or (b or (u or q)) ≡ true
+settled-b : (a b u h l d r q : Bool) → a || (b || (u || (h && (l || d)))) ≡ true → l || (d || r) ≡ false → a || (b || (u || q)) ≡ true
 settled-b true b u h l d r q e f = refl
 settled-b false true u h l d r q e f = refl
 settled-b false false true h l d r q e f = refl
@@ -84,7 +84,7 @@ settled-b false false false h false true r q e f = apart f
 settled-b false false false true false false r q e f = apart (sym e)
 settled-b false false false false false false r q e f = apart (sym e)
 
-open-b : (a b u h q : Bool) → a or (b or (u or (h and false))) ≡ true → a or (b or (u or q)) ≡ true
+open-b : (a b u h q : Bool) → a || (b || (u || (h && false))) ≡ true → a || (b || (u || q)) ≡ true
 open-b true b u h q e = refl
 open-b false true u h q e = refl
 open-b false false true h q e = refl
@@ -95,8 +95,8 @@ pub name-steady : Steady inName
 unfolding inName letter digit
 name-steady =
     record {
-      settled = λ c d e x h k. settled-b (letter c) (digit c) (eqb c underscore) (eqb c hyphen) (letter d) (digit d) _ (eqb c hyphen and (letter x or digit x)) h k;
-      whatever = λ c d h. open-b (letter c) (digit c) (eqb c underscore) (eqb c hyphen) (eqb c hyphen and (letter d or digit d)) h;
+      settled = λ c d e x h k. settled-b (letter c) (digit c) (eqb c underscore) (eqb c hyphen) (letter d) (digit d) _ (eqb c hyphen && (letter x || digit x)) h k;
+      whatever = λ c d h. open-b (letter c) (digit c) (eqb c underscore) (eqb c hyphen) (eqb c hyphen && (letter d || digit d)) h;
     }
 
 pub number-steady : Steady inNumber

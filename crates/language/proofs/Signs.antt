@@ -1,6 +1,6 @@
 -- The sign that a text begins with: the first of the list that fits is the longest, for no sign stands before one that it begins.
 -- Assumes nothing.
-use mathlib.Core.Bool.{Bool, true, false}
+use mathlib.Core.Bool.{Bool, true, false, _&&_, cond}
 use mathlib.Core.Path.{_≡_, refl, sym, _∙_, ap}
 use mathlib.Core.Logic.{inl, inr}
 use mathlib.Core.List.{List, [], _∷_}
@@ -12,7 +12,7 @@ use native.Mathlib.Omega.{arith}
 use lib.ListN.{length, getD, take}
 use lib.Dec.{eqb, ltb}
 use borrow.Author.Tests.{eq-eqb, eqb-true, ltb-true}
-use Rattle.language.specs.Words.{bytes, _and_, choose, letter, digit, blank, signs, Among, firstOf}
+use Rattle.language.specs.Words.{bytes, letter, digit, blank, signs, Among, firstOf}
 use Rattle.language.specs.Scan.{begins}
 use Rattle.language.proofs.Runs.{apart, and-left, and-right}
 
@@ -52,18 +52,18 @@ nested (y ∷ l) (z ∷ v) (x ∷ w) e f h =
 -- no sign of the rest begins with s
 unfoldable shorter : String → List String → Bool
 shorter s [] = true
-shorter s (t ∷ ss) = choose (begins (bytes t) (bytes s)) false (shorter s ss)
+shorter s (t ∷ ss) = cond (begins (bytes t) (bytes s)) false (shorter s ss)
 
 unfoldable ordered : List String → Bool
 ordered [] = true
-ordered (s ∷ ss) = shorter s ss and ordered ss
+ordered (s ∷ ss) = shorter s ss && ordered ss
 
 -- a sign has a byte, and begins with no letter, digit or blank
 unfoldable plain : List String → Bool
 plain [] = true
 plain (s ∷ ss) =
     ltb 0 (length (bytes s))
-    and choose (letter (getD (bytes s) 0 0)) false (choose (digit (getD (bytes s) 0 0)) false (choose (blank (getD (bytes s) 0 0)) false (plain ss)))
+    && cond (letter (getD (bytes s) 0 0)) false (cond (digit (getD (bytes s) 0 0)) false (cond (blank (getD (bytes s) 0 0)) false (plain ss)))
 
 signs-ordered : ordered signs ≡ true
 unfolding ordered shorter begins bytes signs
@@ -73,11 +73,11 @@ signs-plain : plain signs ≡ true
 unfolding plain letter digit blank bytes signs
 signs-plain = refl
 
-unless-test : (a b : Bool) → choose a false b ≡ true → a ≡ false
+unless-test : (a b : Bool) → cond a false b ≡ true → a ≡ false
 unless-test true b f = sym f
 unless-test false b f = refl
 
-unless-rest : (a b : Bool) → choose a false b ≡ true → b ≡ true
+unless-rest : (a b : Bool) → cond a false b ≡ true → b ≡ true
 unless-rest true b f = apart (sym f)
 unless-rest false b f = f
 
@@ -98,9 +98,9 @@ unfolding plain
 plain-among s [] e a = absurd a
 plain-among s (t ∷ ss) e a =
     let c = getD (bytes t) 0 0 in
-    let e₁ = and-right (ltb 0 (length (bytes t))) (choose (letter c) false (choose (digit c) false (choose (blank c) false (plain ss)))) e in
-    let e₂ = unless-rest (letter c) (choose (digit c) false (choose (blank c) false (plain ss))) e₁ in
-    let e₃ = unless-rest (digit c) (choose (blank c) false (plain ss)) e₂ in
+    let e₁ = and-right (ltb 0 (length (bytes t))) (cond (letter c) false (cond (digit c) false (cond (blank c) false (plain ss)))) e in
+    let e₂ = unless-rest (letter c) (cond (digit c) false (cond (blank c) false (plain ss))) e₁ in
+    let e₃ = unless-rest (digit c) (cond (blank c) false (plain ss)) e₂ in
     go (record {
       some = ltb-true 0 (length (bytes t)) (and-left (ltb 0 (length (bytes t))) _ e);
       noLetter = unless-test (letter c) _ e₁;
