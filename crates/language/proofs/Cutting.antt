@@ -12,9 +12,10 @@ use native.Mathlib.Numerals.{add-one}
 use lib.Seq.{length-take-le, drop-drop, getD-drop}
 use lib.Dec.{eqb}
 use borrow.Author.Tests.{eq-eqb, ne-eqb}
+use Rattle.ll1.proofs.Sets.{clash}
 use Rattle.language.specs.Words.{blank, inBlanks, IsWord, Longest, kindOf, tooLarge, Word, wordAt, Words, words, refused, before, Cut, ends, skips, takes, large, strange}
 use Rattle.language.specs.Scan.{span, wordLength, found, stops, over, nextAt, pastBlanks, nextWord, behind, follow, wordsUpTo, wordsFrom, wordsOf}
-use Rattle.language.proofs.Runs.{apart, span-fits}
+use Rattle.language.proofs.Runs.{span-fits}
 use Rattle.language.proofs.Longest.{Takes, longest-taken, blank-none, no-empty-word}
 
 -- ---- one cut
@@ -23,7 +24,7 @@ same-length : (l : List ℕ) (n m : ℕ) → Longest l n → Longest l m → n �
 same-length l n m x y = omega (arith, x .most m (y .inside) (y .word), y .most n (x .inside) (x .word))
 
 same-large : (l : List ℕ) (n m : ℕ) → Longest l n → Longest l m → tooLarge (kindOf (take n l)) (take n l) ≡ false → tooLarge (kindOf (take m l)) (take m l) ≡ true → ⊥
-same-large l n m x y e f = apart (sym f ∙ ap (λ (i : ℕ). tooLarge (kindOf (take i l)) (take i l)) (same-length l m n y x) ∙ e)
+same-large l n m x y e f = clash (sym f ∙ ap (λ (i : ℕ). tooLarge (kindOf (take i l)) (take i l)) (same-length l m n y x) ∙ e)
 
 no-word-here : (n : ℕ) → Longest [] n → ⊥
 no-word-here zero x = no-empty-word (x .word)
@@ -36,7 +37,7 @@ one-cut ends (large n x f) = absurd (no-word-here n x)
 one-cut (skips b x) (skips d y) = one-cut x y
 one-cut (skips {c = c} {l = l} b x) (takes n y f z e) = absurd (blank-none c l b n (y .word))
 one-cut (skips {c = c} {l = l} b x) (large n y f) = absurd (blank-none c l b n (y .word))
-one-cut (skips b x) (strange d y) = apart (sym b ∙ d)
+one-cut (skips b x) (strange d y) = clash (sym b ∙ d)
 one-cut (takes n x f y e) ends = absurd (no-word-here n x)
 one-cut (takes n x f y e) (skips {c = c} {l = l} d z) = absurd (blank-none c l d n (x .word))
 one-cut (takes {at = at} {l = l} n x f y e) (takes {q = q} m u g z h) =
@@ -49,7 +50,7 @@ one-cut (large n x f) (skips {c = c} {l = l} d z) = absurd (blank-none c l d n (
 one-cut (large {l = l} n x f) (takes m u g z h) = absurd (same-large l m n u x g f)
 one-cut (large n x f) (large m u g) = refl
 one-cut (large n x f) (strange b z) = refl
-one-cut (strange b x) (skips d y) = apart (sym d ∙ b)
+one-cut (strange b x) (skips d y) = clash (sym d ∙ b)
 one-cut (strange b x) (takes n y f z e) = absurd (x n (y .word))
 one-cut (strange b x) (large n y f) = refl
 one-cut (strange b x) (strange d y) = refl
