@@ -10,60 +10,40 @@ use Rattle.ll1.specs.Grammar.{Sentence}
 use Rattle.ll1.specs.Values.{Makes, make, front, back, nothing, valuesOf}
 use Rattle.ll1.proofs.Tests.{has, beginRow, pick}
 use Rattle.ll1.proofs.Derived.{after-word, after-rule, by-rule, after-into, after-out, derived}
-use Rattle.language.specs.Words.{bytes, blank, letter, digit, inName, signs, reserved, same, firstOf, spelled, kindOf, valueFrom, tooLarge, Kind, Word, Words, words, refused}
-use Rattle.language.specs.Scan.{span, begins, lengthOf, wordLength, nextAt, pastBlanks, nextWord, follow, wordsUpTo, wordsFrom, wordsOf}
+use Rattle.language.specs.Words.{bytes, Kind, Word}
 use Rattle.language.specs.Grammar.{Part, Program, Declarations, Declaration, Inputs, MoreInputs, Ending, Booleans, MoreBooleans, BooleanStart, BooleanValue, Integers, MoreIntegers, IntegerStart, Statements, AfterStatement, NextStatement, Statement, Else, Cases, Branches, Target, Index, Tier, Further, Expression, Line, ε, _▸_, _▹_, Strength, between, before, binding, csml, tier, further, mostLevels, kinds}
+use Rattle.language.proofs.Texts.{wordsIn}
 use Rattle.language.proofs.Claims as claimed
 
--- an expression is worth its bytes in parentheses; what follows an operand waits for that operand
+-- every part is worth bytes, made from those of the operand before it: only what follows an operand looks at them
+abbrev Shown : Type 0
+Shown = List ℕ → List ℕ
+
 abbrev Worth : Part → Type 0
-Worth Program = Unit
-Worth Declarations = Unit
-Worth Declaration = Unit
-Worth Inputs = Unit
-Worth MoreInputs = Unit
-Worth Ending = Unit
-Worth Booleans = Unit
-Worth MoreBooleans = Unit
-Worth BooleanStart = Unit
-Worth BooleanValue = Unit
-Worth Integers = Unit
-Worth MoreIntegers = Unit
-Worth IntegerStart = Unit
-Worth Statements = Unit
-Worth AfterStatement = Unit
-Worth NextStatement = Unit
-Worth Statement = Unit
-Worth Else = Unit
-Worth Cases = Unit
-Worth Branches = Unit
-Worth Target = Unit
-Worth Index = List ℕ
-Worth (Tier n) = List ℕ
-Worth (Further n) = List ℕ → List ℕ
+Worth n = Shown
 
 abbrev inside : List ℕ → List ℕ
 inside s = bytes "(" ++ (s ++ bytes ")")
 
-abbrev ignored : (rows : List Line) → Makes (List ℕ) Worth Unit rows
+abbrev ignored : (rows : List Line) → Makes (List ℕ) Worth Shown rows
 ignored [] = tt
-ignored (r ∷ rows) = (λ v. tt, ignored rows)
+ignored (r ∷ rows) = (λ v a. a, ignored rows)
 
-abbrev tier-makes : (n : ℕ) (o : Option Strength) → Makes (List ℕ) Worth (List ℕ) (tier n o)
-tier-makes n (some (between ops)) = (λ v. v .1 .0 (v .0), tt)
-tier-makes n (some (before op)) = (λ v. inside (v .0 ++ v .1 .0), (λ v. v .0, tt))
-tier-makes n none = (λ v. v .0 ++ v .1 .0, (λ v. v .0, (λ v. v .0, (λ v. v .0, (λ v. v .0 ++ inside (v .1 .1 .0), (λ v. v .1 .0, tt))))))
+abbrev tier-makes : (n : ℕ) (o : Option Strength) → Makes (List ℕ) Worth Shown (tier n o)
+tier-makes n (some (between ops)) = (λ v a. v .1 .0 (v .0 []), tt)
+tier-makes n (some (before op)) = (λ v a. inside (v .0 ++ v .1 .0 []), (λ v a. v .0 [], tt))
+tier-makes n none = (λ v a. v .0 ++ v .1 .0 [], (λ v a. v .0, (λ v a. v .0, (λ v a. v .0, (λ v a. v .0 ++ inside (v .1 .1 .0 []), (λ v a. v .1 .0 [], tt))))))
 
-abbrev each : (n : ℕ) (ops : List String) → Makes (List ℕ) Worth (List ℕ → List ℕ) (map (λ op. _▸_ op (Tier (suc n) ▹ Further n ▹ ε)) ops)
+abbrev each : (n : ℕ) (ops : List String) → Makes (List ℕ) Worth Shown (map (λ op. op ▸ Tier (suc n) ▹ Further n ▹ ε) ops)
 each n [] = tt
-each n (op ∷ ops) = (λ v a. v .1 .1 .0 (inside (a ++ (v .0 ++ v .1 .0))), each n ops)
+each n (op ∷ ops) = (λ v a. v .1 .1 .0 (inside (a ++ (v .0 ++ v .1 .0 []))), each n ops)
 
-abbrev further-makes : (n : ℕ) (o : Option Strength) → Makes (List ℕ) Worth (List ℕ → List ℕ) (further n o)
+abbrev further-makes : (n : ℕ) (o : Option Strength) → Makes (List ℕ) Worth Shown (further n o)
 further-makes n (some (between ops)) = (λ v a. a, each n ops)
 further-makes n (some (before op)) = (λ v a. a, tt)
 further-makes n none = (λ v a. a, tt)
 
-unfoldable makes : (n : Part) → Makes (List ℕ) Worth (Worth n) (csml n)
+unfoldable makes : (n : Part) → Makes (List ℕ) Worth Shown (csml n)
 unfolding csml
 makes Program = ignored (csml Program)
 makes Declarations = ignored (csml Declarations)
@@ -86,27 +66,23 @@ makes Else = ignored (csml Else)
 makes Cases = ignored (csml Cases)
 makes Branches = ignored (csml Branches)
 makes Target = ignored (csml Target)
-makes Index = (λ v. [], (λ v. v .0 ++ (v .1 .0 ++ v .1 .1 .0), tt))
+makes Index = (λ v a. [], (λ v a. v .0 ++ (v .1 .0 ++ v .1 .1 .0), tt))
 makes (Tier n) = tier-makes n (getElem? binding n)
 makes (Further n) = further-makes n (getElem? binding n)
-
-abbrev listed : Words → List Word
-listed (words ws) = ws
-listed (refused e) = []
 
 -- an expression, and the word behind it
 abbrev start : Line
 start = Expression ▹ ")" ▸ ε
 
 abbrev worth : (ks : List Kind) (text : List (List ℕ)) → Option (Sentence csml mostLevels start ks) → List ℕ
-worth ks text (some x) = valuesOf (List ℕ) Worth csml makes (λ m. getD text m []) (x .1) (x .2) 0 .0
+worth ks text (some x) = valuesOf (List ℕ) Worth csml makes (λ m. getD text m []) (x .1) (x .2) 0 .0 []
 worth ks text none = []
 
 abbrev of : List Word → List ℕ
 of ws = worth (kinds ws) (map (λ w. w .bytes) ws) (derived claimed.claims csml claimed.passes 400 mostLevels start (kinds ws))
 
 abbrev _means_ : String → String → Type 0
-s means t = of (listed (wordsOf (bytes s ++ bytes ")"))) ≡ bytes t
+s means t = of (wordsIn s ++ wordsIn ")") ≡ bytes t
 
 infix 20 _means_
 pub record Examples : Type 0 where
@@ -127,9 +103,7 @@ pub record Examples : Type 0 where
   parentheses : "(a & b) | int(x[2] - 1)" means "((a&b)|int((x[2]-1)))"
 
 pub examples : Examples
-unfolding
-    bytes blank letter digit inName signs reserved same firstOf spelled kindOf valueFrom tooLarge span begins lengthOf wordLength nextAt pastBlanks
-    nextWord follow wordsUpTo wordsFrom has beginRow pick binding csml claimed.claims claimed.first claimed.empty claimed.follow
+unfolding wordsIn has beginRow pick binding csml claimed.claims claimed.first claimed.empty claimed.follow
     after-word after-rule by-rule after-into after-out derived make front back nothing valuesOf makes
 examples =
     record {

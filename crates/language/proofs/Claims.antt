@@ -9,6 +9,7 @@ use Prim.Native.String.{String}
 use lib.Dec.{T}
 use lib.ListN.{length}
 use lib.Text.{eqt, eqt→eq, eqt-refl}
+use Rattle.ll1.proofs.Sets.{clash}
 use Rattle.ll1.proofs.Tests.{Claims, has, within, apart, emptyRow, beginRow, follows, falls, keeps, differs, allDiffer, smaller, someSmall, Passes}
 use Rattle.ll1.proofs.Forced.{Good}
 use Rattle.language.specs.Words.{Kind, name, number, the}
@@ -31,18 +32,15 @@ holds : (b : Bool) → T b → b ≡ true
 holds true t = refl
 holds false t = absurd t
 
-differ : {A : Type 0} → Path Bool false true → A
-differ e = absurd (subst T (sym e) tt)
-
 pub same-true : (x y : Kind) → sameKind x y ≡ true → x ≡ y
 same-true name name e = refl
-same-true name number e = differ e
-same-true name (the t) e = differ e
-same-true number name e = differ e
+same-true name number e = clash (sym e)
+same-true name (the t) e = clash (sym e)
+same-true number name e = clash (sym e)
 same-true number number e = refl
-same-true number (the t) e = differ e
-same-true (the s) name e = differ e
-same-true (the s) number e = differ e
+same-true number (the t) e = clash (sym e)
+same-true (the s) name e = clash (sym e)
+same-true (the s) number e = clash (sym e)
 same-true (the s) (the t) e = ap the (eqt→eq s t (subst T (sym e) tt))
 
 pub same-self : (x : Kind) → sameKind x x ≡ true

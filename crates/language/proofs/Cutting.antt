@@ -1,6 +1,6 @@
 -- The words that are computed are the cut of the text, there is no other cut, and where its words lie.
 -- Assumes nothing.
-use mathlib.Core.Bool.{Bool, true, false}
+use mathlib.Core.Bool.{Bool, true, false, cond}
 use mathlib.Core.Path.{_≡_, refl, sym, _∙_, ap, ap₂, subst}
 use mathlib.Core.List.{List, [], _∷_}
 use Prim.Native.Nat.{ℕ, zero, suc, _+_, _≤_, _<_}
@@ -12,9 +12,10 @@ use native.Mathlib.Numerals.{add-one}
 use lib.Seq.{length-take-le, drop-drop, getD-drop}
 use lib.Dec.{eqb}
 use borrow.Author.Tests.{eq-eqb, ne-eqb}
-use Rattle.language.specs.Words.{choose, blank, inBlanks, IsWord, Longest, kindOf, tooLarge, Word, wordAt, Words, words, refused, before, Cut, ends, skips, takes, large, strange}
+use Rattle.ll1.proofs.Sets.{clash}
+use Rattle.language.specs.Words.{blank, inBlanks, IsWord, Longest, kindOf, tooLarge, Word, wordAt, Words, words, refused, before, Cut, ends, skips, takes, large, strange}
 use Rattle.language.specs.Scan.{span, wordLength, found, stops, over, nextAt, pastBlanks, nextWord, behind, follow, wordsUpTo, wordsFrom, wordsOf}
-use Rattle.language.proofs.Runs.{apart, span-fits}
+use Rattle.language.proofs.Runs.{span-fits}
 use Rattle.language.proofs.Longest.{Takes, longest-taken, blank-none, no-empty-word}
 
 -- ---- one cut
@@ -23,7 +24,7 @@ same-length : (l : List ℕ) (n m : ℕ) → Longest l n → Longest l m → n �
 same-length l n m x y = omega (arith, x .most m (y .inside) (y .word), y .most n (x .inside) (x .word))
 
 same-large : (l : List ℕ) (n m : ℕ) → Longest l n → Longest l m → tooLarge (kindOf (take n l)) (take n l) ≡ false → tooLarge (kindOf (take m l)) (take m l) ≡ true → ⊥
-same-large l n m x y e f = apart (sym f ∙ ap (λ (i : ℕ). tooLarge (kindOf (take i l)) (take i l)) (same-length l m n y x) ∙ e)
+same-large l n m x y e f = clash (sym f ∙ ap (λ (i : ℕ). tooLarge (kindOf (take i l)) (take i l)) (same-length l m n y x) ∙ e)
 
 no-word-here : (n : ℕ) → Longest [] n → ⊥
 no-word-here zero x = no-empty-word (x .word)
@@ -36,7 +37,7 @@ one-cut ends (large n x f) = absurd (no-word-here n x)
 one-cut (skips b x) (skips d y) = one-cut x y
 one-cut (skips {c = c} {l = l} b x) (takes n y f z e) = absurd (blank-none c l b n (y .word))
 one-cut (skips {c = c} {l = l} b x) (large n y f) = absurd (blank-none c l b n (y .word))
-one-cut (skips b x) (strange d y) = apart (sym b ∙ d)
+one-cut (skips b x) (strange d y) = clash (sym b ∙ d)
 one-cut (takes n x f y e) ends = absurd (no-word-here n x)
 one-cut (takes n x f y e) (skips {c = c} {l = l} d z) = absurd (blank-none c l d n (x .word))
 one-cut (takes {at = at} {l = l} n x f y e) (takes {q = q} m u g z h) =
@@ -49,7 +50,7 @@ one-cut (large n x f) (skips {c = c} {l = l} d z) = absurd (blank-none c l d n (
 one-cut (large {l = l} n x f) (takes m u g z h) = absurd (same-large l m n u x g f)
 one-cut (large n x f) (large m u g) = refl
 one-cut (large n x f) (strange b z) = refl
-one-cut (strange b x) (skips d y) = apart (sym d ∙ b)
+one-cut (strange b x) (skips d y) = clash (sym d ∙ b)
 one-cut (strange b x) (takes n y f z e) = absurd (x n (y .word))
 one-cut (strange b x) (large n y f) = refl
 one-cut (strange b x) (strange d y) = refl
@@ -91,13 +92,13 @@ next-cut at (c ∷ l) b rest x = go (longest-taken c l)
     n = wordLength (c ∷ l)
 
     sized : 0 < n → Longest (c ∷ l) n → (t : Bool) → tooLarge (kindOf (take n (c ∷ l))) (take n (c ∷ l)) ≡ t
-        → Cut at (c ∷ l) (follow (choose t (stops at) (found (wordAt at (take n (c ∷ l))))) rest)
+        → Cut at (c ∷ l) (follow (cond t (stops at) (found (wordAt at (take n (c ∷ l))))) rest)
     sized h y true e = large n y e
     sized h y false e =
         let long : length (take n (c ∷ l)) ≡ n = length-take-le n (c ∷ l) (y .inside) in
         takes n y e (x n h (y .inside)) (ap (λ (i : ℕ). before (wordAt at (take n (c ∷ l))) (rest (at + i))) long)
 
-    go : Takes (c ∷ l) n → Cut at (c ∷ l) (follow (choose (eqb n 0) (stops at) (choose (tooLarge (kindOf (take n (c ∷ l))) (take n (c ∷ l))) (stops at) (found (wordAt at (take n (c ∷ l)))))) rest)
+    go : Takes (c ∷ l) n → Cut at (c ∷ l) (follow (cond (eqb n 0) (stops at) (cond (tooLarge (kindOf (take n (c ∷ l))) (take n (c ∷ l))) (stops at) (found (wordAt at (take n (c ∷ l)))))) rest)
     go (Takes.word h y) = rw (ne-eqb n 0 (λ e. omega arith)) (sized h y (tooLarge (kindOf (take n (c ∷ l))) (take n (c ∷ l))) refl)
     go (Takes.nothing h y) = rw (eq-eqb n 0 h) (strange b y)
 

@@ -5,9 +5,9 @@ use Prim.Native.Nat.{ℕ}
 use Prim.Native.String.{String}
 use Rattle.ll1.proofs.Tests.{has, beginRow, pick}
 use Rattle.ll1.proofs.Parser.{barred, run}
-use Rattle.language.specs.Words.{bytes, blank, letter, digit, inName, signs, reserved, same, firstOf, spelled, kindOf, valueFrom, tooLarge, Word}
-use Rattle.language.specs.Scan.{span, begins, lengthOf, wordLength, nextAt, pastBlanks, nextWord, follow, wordsUpTo, wordsFrom}
+use Rattle.language.specs.Words.{bytes, Word}
 use Rattle.language.specs.Grammar.{binding, csml, program, refuses, Checks}
+use Rattle.language.proofs.Texts.{wordsIn}
 use Rattle.language.proofs.Claims as claimed
 use Rattle.language.proofs.Checking.{shows}
 
@@ -90,9 +90,7 @@ pub record Examples : Type 0 where
   strange-after : Four "program p; skip endprog \0" 24
 
 pub examples : Examples
-unfolding
-    bytes blank letter digit inName signs reserved same firstOf spelled kindOf valueFrom tooLarge span begins lengthOf wordLength nextAt pastBlanks
-    nextWord follow wordsUpTo wordsFrom has beginRow pick barred run binding csml claimed.claims claimed.first claimed.empty claimed.follow
+unfolding wordsIn has beginRow pick barred run binding csml claimed.claims claimed.first claimed.empty claimed.follow
 examples =
     record {
       blink = (_, shows 400 _ tt);

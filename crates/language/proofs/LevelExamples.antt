@@ -8,18 +8,10 @@ use Rattle.ll1.proofs.Answered.{answerOf, computed}
 use Rattle.ll1.proofs.Ends.{Done}
 use Rattle.ll1.proofs.Tests.{has, beginRow, pick}
 use Rattle.ll1.proofs.Parser.{barred, run}
-use Rattle.language.specs.Words.{bytes, blank, letter, digit, inName, signs, reserved, same, firstOf, spelled, kindOf, valueFrom, tooLarge, Kind, Word, Words, words}
-use Rattle.language.specs.Words as cut
-use Rattle.language.specs.Scan.{span, begins, lengthOf, wordLength, nextAt, pastBlanks, nextWord, follow, wordsUpTo, wordsFrom, wordsOf}
-use Rattle.language.specs.Grammar.{binding, csml, mostLevels, wholeProgram, kinds, program}
+use Rattle.language.specs.Words.{Kind}
+use Rattle.language.specs.Grammar.{binding, csml, mostLevels, wholeProgram}
+use Rattle.language.proofs.Texts.{wordsIn, kindsIn}
 use Rattle.language.proofs.Claims as claimed
-
-abbrev listed : Words → List Word
-listed (words ws) = ws
-listed (cut.refused e) = []
-
-abbrev kindsIn : String → List Kind
-kindsIn s = kinds (listed (wordsOf (bytes s)))
 
 abbrev times : ℕ → List Kind → List Kind
 times zero ks = []
@@ -58,9 +50,7 @@ pub record Levels : Type 0 where
   not-open : Reads (nested 0 "" "x := !!!!!!!!!!!!!!!!!!!!!!!!!!!!!!!(a + (b))" "") (refused 39)
 
 pub levels : Levels
-unfolding
-    bytes blank letter digit inName signs reserved same firstOf spelled kindOf valueFrom tooLarge span begins lengthOf wordLength nextAt pastBlanks
-    nextWord follow wordsUpTo wordsFrom has beginRow pick barred run binding csml claimed.claims claimed.first claimed.empty claimed.follow
+unfolding wordsIn has beginRow pick barred run binding csml claimed.claims claimed.first claimed.empty claimed.follow
 levels =
     record {
       loops = reads _ tt;

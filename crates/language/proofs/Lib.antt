@@ -2,10 +2,11 @@ pub mod Runs
 pub mod Signs
 pub mod Longest
 pub mod Cutting
-pub mod WordExamples
 pub mod Claims
 pub mod Spelled
 pub mod Checking
+pub mod Texts
+pub mod WordExamples
 pub mod GrammarExamples
 pub mod LevelExamples
 pub mod BindingExamples

@@ -1,25 +1,15 @@
 -- A run of bytes that go on, each before the next: the longest such beginning of a text.
 -- Assumes nothing.
-use mathlib.Core.Bool.{Bool, true, false, true≢false}
+use mathlib.Core.Bool.{Bool, true, false, _&&_, _||_}
 use mathlib.Core.Path.{_≡_, refl, sym, _∙_}
 use mathlib.Core.List.{List, [], _∷_}
 use Prim.Native.Nat.{ℕ, zero, suc, _≤_}
 use native.Mathlib.Omega.{arith}
 use lib.ListN.{length, getD, take}
 use lib.Dec.{eqb}
-use Rattle.language.specs.Words.{_or_, _and_, letter, digit, underscore, hyphen, inName, inNumber, Run}
+use Rattle.ll1.proofs.Sets.{clash}
+use Rattle.language.specs.Words.{letter, digit, underscore, hyphen, inName, inNumber, Run}
 use Rattle.language.specs.Scan.{span}
-
-pub apart : {A : Type 0} → Path Bool true false → A
-apart e = absurd (true≢false e)
-
-pub and-left : (a b : Bool) → a and b ≡ true → a ≡ true
-and-left true b e = refl
-and-left false b e = apart (sym e)
-
-pub and-right : (a b : Bool) → a and b ≡ true → b ≡ true
-and-right true b e = e
-and-right false b e = apart (sym e)
 
 -- a byte goes on by itself, or because of what follows: then what follows goes on too
 pub record Steady (goesOn : ℕ → ℕ → Bool) : Type 0 where
@@ -66,7 +56,7 @@ module _ (goesOn : ℕ → ℕ → Bool) (steady : Steady goesOn) where
 
       go : (b : Bool) → goesOn c (getD l 0 0) ≡ b → m ≤ span goesOn l → suc m ≤ elim b [ true ↦ suc (span goesOn l) | false ↦ 0 ]
       go true e k = omega arith
-      go false e k = apart (sym (first l m (t .0)) ∙ e)
+      go false e k = clash (sym (first l m (t .0)) ∙ e)
 
   -- at a byte that goes on whatever follows
   pub span-at : (c : ℕ) (l : List ℕ) → goesOn c (getD l 0 0) ≡ true → span goesOn (c ∷ l) ≡ suc (span goesOn l)
@@ -75,28 +65,28 @@ module _ (goesOn : ℕ → ℕ → Bool) (steady : Steady goesOn) where
 
 -- ---- the three runs
 
-settled-b : (a b u h l d r q : Bool) → a or (b or (u or (h and (l or d)))) ≡ true → l or (d or r) ≡ false → a or (b or (u or q)) ≡ true
+settled-b : (a b u h l d r q : Bool) → a || (b || (u || (h && (l || d)))) ≡ true → l || (d || r) ≡ false → a || (b || (u || q)) ≡ true
 settled-b true b u h l d r q e f = refl
 settled-b false true u h l d r q e f = refl
 settled-b false false true h l d r q e f = refl
-settled-b false false false h true d r q e f = apart f
-settled-b false false false h false true r q e f = apart f
-settled-b false false false true false false r q e f = apart (sym e)
-settled-b false false false false false false r q e f = apart (sym e)
+settled-b false false false h true d r q e f = clash f
+settled-b false false false h false true r q e f = clash f
+settled-b false false false true false false r q e f = clash (sym e)
+settled-b false false false false false false r q e f = clash (sym e)
 
-open-b : (a b u h q : Bool) → a or (b or (u or (h and false))) ≡ true → a or (b or (u or q)) ≡ true
+open-b : (a b u h q : Bool) → a || (b || (u || (h && false))) ≡ true → a || (b || (u || q)) ≡ true
 open-b true b u h q e = refl
 open-b false true u h q e = refl
 open-b false false true h q e = refl
-open-b false false false true q e = apart (sym e)
-open-b false false false false q e = apart (sym e)
+open-b false false false true q e = clash (sym e)
+open-b false false false false q e = clash (sym e)
 
 pub name-steady : Steady inName
 unfolding inName letter digit
 name-steady =
     record {
-      settled = λ c d e x h k. settled-b (letter c) (digit c) (eqb c underscore) (eqb c hyphen) (letter d) (digit d) _ (eqb c hyphen and (letter x or digit x)) h k;
-      whatever = λ c d h. open-b (letter c) (digit c) (eqb c underscore) (eqb c hyphen) (eqb c hyphen and (letter d or digit d)) h;
+      settled = λ c d e x h k. settled-b (letter c) (digit c) (eqb c underscore) (eqb c hyphen) (letter d) (digit d) _ (eqb c hyphen && (letter x || digit x)) h k;
+      whatever = λ c d h. open-b (letter c) (digit c) (eqb c underscore) (eqb c hyphen) (eqb c hyphen && (letter d || digit d)) h;
     }
 
 pub number-steady : Steady inNumber

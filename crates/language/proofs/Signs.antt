@@ -1,6 +1,6 @@
 -- The sign that a text begins with: the first of the list that fits is the longest, for no sign stands before one that it begins.
 -- Assumes nothing.
-use mathlib.Core.Bool.{Bool, true, false}
+use mathlib.Core.Bool.{Bool, true, false, _&&_, cond}
 use mathlib.Core.Path.{_≡_, refl, sym, _∙_, ap}
 use mathlib.Core.Logic.{inl, inr}
 use mathlib.Core.List.{List, [], _∷_}
@@ -12,9 +12,9 @@ use native.Mathlib.Omega.{arith}
 use lib.ListN.{length, getD, take}
 use lib.Dec.{eqb, ltb}
 use borrow.Author.Tests.{eq-eqb, eqb-true, ltb-true}
-use Rattle.language.specs.Words.{bytes, _and_, choose, letter, digit, blank, signs, Among, firstOf}
+use Rattle.ll1.proofs.Sets.{clash, and-left, and-right}
+use Rattle.language.specs.Words.{bytes, letter, digit, blank, signs, Among, firstOf}
 use Rattle.language.specs.Scan.{begins}
-use Rattle.language.proofs.Runs.{apart, and-left, and-right}
 
 pub begins-take : (n : ℕ) (l : List ℕ) → begins l (take n l) ≡ true
 unfolding begins
@@ -25,7 +25,7 @@ begins-take (suc n) (y ∷ l) = rw (eq-eqb y y refl) (begins-take n l)
 pub taken : (l w : List ℕ) → begins l w ≡ true → take (length w) l ≡ w
 unfolding begins
 taken l [] e = refl
-taken [] (x ∷ w) e = apart (sym e)
+taken [] (x ∷ w) e = clash (sym e)
 taken (y ∷ l) (x ∷ w) e =
     let same : x ≡ y = eqb-true x y (and-left (eqb x y) (begins l w) e) in
     rw (sym same) (ap (λ (v : List ℕ). x ∷ v) (taken l w (and-right (eqb x y) (begins l w) e)))
@@ -33,7 +33,7 @@ taken (y ∷ l) (x ∷ w) e =
 pub fits : (l w : List ℕ) → begins l w ≡ true → length w ≤ length l
 unfolding begins
 fits l [] e = omega arith
-fits [] (x ∷ w) e = apart (sym e)
+fits [] (x ∷ w) e = clash (sym e)
 fits (y ∷ l) (x ∷ w) e = omega (arith, fits l w (and-right (eqb x y) (begins l w) e))
 
 -- of two beginnings the longer begins with the shorter
@@ -41,7 +41,7 @@ nested : (l v w : List ℕ) → begins l v ≡ true → begins l w ≡ true → 
 unfolding begins
 nested l v [] e f h = refl
 nested l [] (x ∷ w) e f h = absurd (omega arith)
-nested [] (z ∷ v) (x ∷ w) e f h = apart (sym e)
+nested [] (z ∷ v) (x ∷ w) e f h = clash (sym e)
 nested (y ∷ l) (z ∷ v) (x ∷ w) e f h =
     let p : z ≡ y = eqb-true z y (and-left (eqb z y) (begins l v) e) in
     let q : x ≡ y = eqb-true x y (and-left (eqb x y) (begins l w) f) in
@@ -52,18 +52,18 @@ nested (y ∷ l) (z ∷ v) (x ∷ w) e f h =
 -- no sign of the rest begins with s
 unfoldable shorter : String → List String → Bool
 shorter s [] = true
-shorter s (t ∷ ss) = choose (begins (bytes t) (bytes s)) false (shorter s ss)
+shorter s (t ∷ ss) = cond (begins (bytes t) (bytes s)) false (shorter s ss)
 
 unfoldable ordered : List String → Bool
 ordered [] = true
-ordered (s ∷ ss) = shorter s ss and ordered ss
+ordered (s ∷ ss) = shorter s ss && ordered ss
 
 -- a sign has a byte, and begins with no letter, digit or blank
 unfoldable plain : List String → Bool
 plain [] = true
 plain (s ∷ ss) =
     ltb 0 (length (bytes s))
-    and choose (letter (getD (bytes s) 0 0)) false (choose (digit (getD (bytes s) 0 0)) false (choose (blank (getD (bytes s) 0 0)) false (plain ss)))
+    && cond (letter (getD (bytes s) 0 0)) false (cond (digit (getD (bytes s) 0 0)) false (cond (blank (getD (bytes s) 0 0)) false (plain ss)))
 
 signs-ordered : ordered signs ≡ true
 unfolding ordered shorter begins bytes signs
@@ -73,12 +73,12 @@ signs-plain : plain signs ≡ true
 unfolding plain letter digit blank bytes signs
 signs-plain = refl
 
-unless-test : (a b : Bool) → choose a false b ≡ true → a ≡ false
+unless-test : (a b : Bool) → cond a false b ≡ true → a ≡ false
 unless-test true b f = sym f
 unless-test false b f = refl
 
-unless-rest : (a b : Bool) → choose a false b ≡ true → b ≡ true
-unless-rest true b f = apart (sym f)
+unless-rest : (a b : Bool) → cond a false b ≡ true → b ≡ true
+unless-rest true b f = clash (sym f)
 unless-rest false b f = f
 
 shorter-among : (s t : String) (ss : List String) → shorter s ss ≡ true → Among t ss → begins (bytes t) (bytes s) ≡ false
@@ -98,9 +98,9 @@ unfolding plain
 plain-among s [] e a = absurd a
 plain-among s (t ∷ ss) e a =
     let c = getD (bytes t) 0 0 in
-    let e₁ = and-right (ltb 0 (length (bytes t))) (choose (letter c) false (choose (digit c) false (choose (blank c) false (plain ss)))) e in
-    let e₂ = unless-rest (letter c) (choose (digit c) false (choose (blank c) false (plain ss))) e₁ in
-    let e₃ = unless-rest (digit c) (choose (blank c) false (plain ss)) e₂ in
+    let e₁ = and-right (ltb 0 (length (bytes t))) (cond (letter c) false (cond (digit c) false (cond (blank c) false (plain ss)))) e in
+    let e₂ = unless-rest (letter c) (cond (digit c) false (cond (blank c) false (plain ss))) e₁ in
+    let e₃ = unless-rest (digit c) (cond (blank c) false (plain ss)) e₂ in
     go (record {
       some = ltb-true 0 (length (bytes t)) (and-left (ltb 0 (length (bytes t))) _ e);
       noLetter = unless-test (letter c) _ e₁;
@@ -133,10 +133,10 @@ first-is l (s ∷ ss) e = go (begins l (bytes s)) refl (first-is l ss (and-right
       where
         dec : Dec (length (bytes t) ≤ length (bytes s)) → length (bytes t) ≤ length (bytes s)
         dec (yes k) = k
-        dec (no k) = apart (sym (nested l (bytes t) (bytes s) f h (omega arith)) ∙ shorter-among s t ss (and-left (shorter s ss) (ordered ss) e) a)
+        dec (no k) = clash (sym (nested l (bytes t) (bytes s) f h (omega arith)) ∙ shorter-among s t ss (and-left (shorter s ss) (ordered ss) e) a)
 
     not-here : (t : String) → begins l (bytes s) ≡ false → Among t (s ∷ ss) → begins l (bytes t) ≡ true → Among t ss
-    not-here t f (inl p) g = apart (sym g ∙ ap (λ (u : String). begins l (bytes u)) p ∙ f)
+    not-here t f (inl p) g = clash (sym g ∙ ap (λ (u : String). begins l (bytes u)) p ∙ f)
     not-here t f (inr a) g = a
 
     more : {o : Option String} → begins l (bytes s) ≡ false → Taken l ss o → Taken l (s ∷ ss) o

@@ -4,8 +4,9 @@ use mathlib.Core.Path.{_≡_, refl}
 use mathlib.Core.List.{List, [], _∷_}
 use Prim.Native.Nat.{ℕ}
 use Prim.Native.String.{String}
-use Rattle.language.specs.Words.{bytes, blank, letter, digit, inName, signs, reserved, Kind, name, number, the, same, firstOf, spelled, kindOf, valueFrom, tooLarge, Word, Words, words, refused}
-use Rattle.language.specs.Scan.{span, begins, lengthOf, wordLength, nextAt, pastBlanks, nextWord, follow, wordsUpTo, wordsFrom, wordsOf}
+use Rattle.language.specs.Words.{bytes, Kind, name, number, the, Word, Words, words, refused}
+use Rattle.language.specs.Scan.{wordsOf}
+use Rattle.language.proofs.Texts.{wordsIn}
 
 -- what an example shows: each word's kind and place, or the place of a 4
 data Seen : Type 0 where
@@ -61,9 +62,7 @@ pub record Examples : Type 0 where
   blanks : of " \t\n\r" ≡ cut []
 
 pub examples : Examples
-unfolding
-    bytes blank letter digit inName signs reserved same firstOf spelled kindOf valueFrom tooLarge span begins lengthOf wordLength nextAt pastBlanks
-    nextWord follow wordsUpTo wordsFrom
+unfolding wordsIn
 examples =
     record {
       hyphen = refl;

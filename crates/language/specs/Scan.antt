@@ -1,13 +1,13 @@
 -- The words of a text, computed: what the code is held to. proofs/Cutting says that it is the cut of Words.
 -- Assumes nothing.
-use mathlib.Core.Bool.{Bool, true, false}
+use mathlib.Core.Bool.{Bool, true, false, _&&_, cond}
 use mathlib.Core.List.{List, [], _∷_}
 use mathlib.Core.Option.{Option, none, some}
 use Prim.Native.String.{String}
 use Prim.Native.Nat.{ℕ, zero, suc, _+_}
 use lib.Dec.{eqb}
 use lib.ListN.{length, getD, take, drop}
-use Rattle.language.specs.Words.{bytes, _and_, choose, letter, digit, inName, inNumber, inBlanks, signs, firstOf, kindOf, tooLarge, Word, wordAt, Words, words, refused, before}
+use Rattle.language.specs.Words.{bytes, letter, digit, inName, inNumber, inBlanks, signs, firstOf, kindOf, tooLarge, Word, wordAt, Words, words, refused, before}
 
 -- how many bytes from the front on go on
 unfoldable pub span : (ℕ → ℕ → Bool) → List ℕ → ℕ
@@ -18,7 +18,7 @@ span goesOn (c ∷ l) = elim (goesOn c (getD l 0 0)) [ true ↦ suc (span goesOn
 unfoldable pub begins : List ℕ → List ℕ → Bool
 begins l [] = true
 begins [] (x ∷ w) = false
-begins (y ∷ l) (x ∷ w) = eqb x y and begins l w
+begins (y ∷ l) (x ∷ w) = eqb x y && begins l w
 
 unfoldable pub lengthOf : Option String → ℕ
 lengthOf none = 0
@@ -27,8 +27,8 @@ lengthOf (some s) = length (bytes s)
 -- how many bytes the word has that l begins with; 0 where no word starts
 unfoldable pub wordLength : List ℕ → ℕ
 wordLength l =
-    choose (letter (getD l 0 0)) (span inName l)
-    (choose (digit (getD l 0 0)) (span inNumber l)
+    cond (letter (getD l 0 0)) (span inName l)
+    (cond (digit (getD l 0 0)) (span inNumber l)
     (lengthOf (firstOf (begins l) signs)))
 
 -- what comes next in a text
@@ -40,8 +40,8 @@ pub data Next : Type 0 where
 unfoldable pub nextAt : ℕ → List ℕ → Next
 nextAt at [] = over
 nextAt at (c ∷ l) =
-    choose (eqb (wordLength (c ∷ l)) 0) (stops at)
-    (choose (tooLarge (kindOf (take (wordLength (c ∷ l)) (c ∷ l))) (take (wordLength (c ∷ l)) (c ∷ l))) (stops at)
+    cond (eqb (wordLength (c ∷ l)) 0) (stops at)
+    (cond (tooLarge (kindOf (take (wordLength (c ∷ l)) (c ∷ l))) (take (wordLength (c ∷ l)) (c ∷ l))) (stops at)
     (found (wordAt at (take (wordLength (c ∷ l)) (c ∷ l)))))
 
 -- the place after the blanks that stand from a place on

@@ -1,6 +1,6 @@
 -- The words of a text: document 01, "Words (house)", and refusal 4.
 -- Assumes nothing.
-use mathlib.Core.Bool.{Bool, true, false}
+use mathlib.Core.Bool.{Bool, true, false, _&&_, _||_, cond}
 use mathlib.Core.Path.{_≡_}
 use mathlib.Core.Logic.{_⊎_}
 use mathlib.Core.List.{List, [], _∷_, _++_}
@@ -19,30 +19,16 @@ unfoldable pub bytes : String → List ℕ
 bytes Text.[] = []
 bytes (Text._∷_ c s) = code c ∷ bytes s
 
-abbrev pub _or_ : Bool → Bool → Bool
-true or b = true
-false or b = b
-
-abbrev pub _and_ : Bool → Bool → Bool
-true and b = b
-false and b = false
-
-infixr 30 _or_
-infixr 40 _and_
-abbrev pub choose {ℓ} : {A : Type ℓ} → Bool → A → A → A
-choose true a b = a
-choose false a b = b
-
 -- "blanks (space, tab, LF, CR)"
 unfoldable pub blank : ℕ → Bool
-blank c = eqb c 32 or (eqb c 9 or (eqb c 10 or eqb c 13))
+blank c = eqb c 32 || (eqb c 9 || (eqb c 10 || eqb c 13))
 
 -- a letter; house: one of ASCII
 unfoldable pub letter : ℕ → Bool
-letter c = (leb 65 c and leb c 90) or (leb 97 c and leb c 122)
+letter c = (leb 65 c && leb c 90) || (leb 97 c && leb c 122)
 
 unfoldable pub digit : ℕ → Bool
-digit c = leb 48 c and leb c 57
+digit c = leb 48 c && leb c 57
 
 abbrev pub underscore : ℕ
 underscore = 95
@@ -52,7 +38,7 @@ hyphen = 45
 
 -- c goes on in a name before d: "letters, digits, underscores; a hyphen belongs to it when a letter or digit follows" (d is 0 where nothing follows)
 unfoldable pub inName : ℕ → ℕ → Bool
-inName c d = letter c or (digit c or (eqb c underscore or (eqb c hyphen and (letter d or digit d))))
+inName c d = letter c || (digit c || (eqb c underscore || (eqb c hyphen && (letter d || digit d))))
 
 -- the same form for the other runs of bytes, which look at no next byte
 abbrev pub inNumber : ℕ → ℕ → Bool
@@ -108,7 +94,7 @@ unfoldable pub same : List ℕ → List ℕ → Bool
 same [] [] = true
 same [] (y ∷ v) = false
 same (x ∷ w) [] = false
-same (x ∷ w) (y ∷ v) = eqb x y and same w v
+same (x ∷ w) (y ∷ v) = eqb x y && same w v
 
 -- the first of some spellings whose bytes pass a test
 unfoldable pub firstOf : (List ℕ → Bool) → List String → Option String
@@ -121,7 +107,7 @@ spelled none k = k
 
 -- the kind of a word, by its bytes
 unfoldable pub kindOf : List ℕ → Kind
-kindOf w = spelled (firstOf (same w) (signs ++ reserved)) (choose (digit (getD w 0 0)) number name)
+kindOf w = spelled (firstOf (same w) (signs ++ reserved)) (cond (digit (getD w 0 0)) number name)
 
 -- "Names are .. 1 to 16 bytes"
 abbrev pub longestName : ℕ

@@ -1,6 +1,6 @@
 -- Where a grammar passes the tests, the next word forces the rule.
 -- Assumes nothing.
-use mathlib.Core.Bool.{Bool, true, false}
+use mathlib.Core.Bool.{Bool, true, false, _&&_}
 use mathlib.Core.Path.{_≡_, refl, sym, _∙_}
 use mathlib.Core.Logic.{_⊎_, inl, inr}
 use mathlib.Core.List.{List, [], _∷_, _++_}
@@ -10,7 +10,7 @@ use native.Mathlib.Nat.{add-zero, add-suc, suc-add, zero-add}
 use native.Mathlib.Omega.{arith}
 use lib.ListN.{length, getD}
 use Rattle.ll1.specs.Grammar.{word, part, In, Out, Row, Grammar, rowAt, Reads, stop, reads, rule, into, out}
-use Rattle.ll1.proofs.Tests.{_and_, _implies_, Claims, has, within, apart, firsts, emptyRow, beginRow, opensWord, follows, falls, keeps, differs, allDiffer, pick, Passes, look}
+use Rattle.ll1.proofs.Tests.{_implies_, Claims, has, within, apart, firsts, emptyRow, beginRow, opensWord, follows, falls, keeps, differs, allDiffer, pick, Passes, look}
 use Rattle.ll1.proofs.Sets.{clash, and-left, and-right, has-self, has-left, has-right, within-has, apart-not, begin-append, begin-mono, begin-cases}
 
 -- what a test of a row says
@@ -29,15 +29,15 @@ module _ {K P : Type 0} (C : Claims K P) where
   kept n p e =
       let a = within C (beginRow C [] p) (firsts C n) in
       let b = emptyRow C p implies C .empty n in
-      let e₁ = and-right a (b and (follows C n p and falls C n p)) e in
-      let e₂ = and-right b (follows C n p and falls C n p) e₁ in
+      let e₁ = and-right a (b && (follows C n p && falls C n p)) e in
+      let e₂ = and-right b (follows C n p && falls C n p) e₁ in
       record { begins = and-left a _ e; vanishes = and-left b _ e₁; followed = and-left (follows C n p) (falls C n p) e₂; lower = and-right (follows C n p) (falls C n p) e₂ }
 
   keeps-in : (n : P) (ps : List (Row K P)) (i : ℕ) → allDiffer C n ps ≡ true → i < length ps → keeps C n (getD ps i []) ≡ true
   unfolding allDiffer
   keeps-in n [] i a h = absurd (omega arith)
-  keeps-in n (q ∷ ps) zero a h = and-left (keeps C n q) (differs C n q ps and allDiffer C n ps) a
-  keeps-in n (q ∷ ps) (suc i) a h = keeps-in n ps i (and-right (differs C n q ps) (allDiffer C n ps) (and-right (keeps C n q) (differs C n q ps and allDiffer C n ps) a)) (omega arith)
+  keeps-in n (q ∷ ps) zero a h = and-left (keeps C n q) (differs C n q ps && allDiffer C n ps) a
+  keeps-in n (q ∷ ps) (suc i) a h = keeps-in n ps i (and-right (differs C n q ps) (allDiffer C n ps) (and-right (keeps C n q) (differs C n q ps && allDiffer C n ps) a)) (omega arith)
 
   differs-not : (n : P) (p : Row K P) (ps : List (Row K P)) (i : ℕ) (x : Option K) → differs C n p ps ≡ true → i < length ps
       → has C (beginRow C (C .follow n) (getD ps i [])) x ≡ true → has C (beginRow C (C .follow n) p) x ≡ false
@@ -55,7 +55,7 @@ module _ {K P : Type 0} (C : Claims K P) where
   pick-in n x j [] i a h e = absurd (omega arith)
   pick-in n x j (q ∷ ps) zero a h e = rw (e, pick, add-zero)
   pick-in n x j (q ∷ ps) (suc i) a h e =
-      let rest = and-right (keeps C n q) (differs C n q ps and allDiffer C n ps) a in
+      let rest = and-right (keeps C n q) (differs C n q ps && allDiffer C n ps) a in
       let no-q : has C (beginRow C (C .follow n) q) x ≡ false = differs-not n q ps i x (and-left (differs C n q ps) (allDiffer C n ps) rest) (omega arith) e in
       rw (no-q, pick, add-suc, ← suc-add) (pick-in n x (suc j) ps i (and-right (differs C n q ps) (allDiffer C n ps) rest) (omega arith) e)
 

@@ -1,21 +1,21 @@
 -- Sets of next words as lists, and what a row begins with.
 -- Assumes nothing.
-use mathlib.Core.Bool.{Bool, true, false, true≢false}
+use mathlib.Core.Bool.{Bool, true, false, true≢false, _&&_}
 use mathlib.Core.Path.{_≡_, refl, sym, ap}
 use mathlib.Core.Logic.{_⊎_, inl, inr}
 use mathlib.Core.List.{List, [], _∷_, _++_}
 use mathlib.Core.Option.{Option, none, some}
 use Rattle.ll1.specs.Grammar.{word, part, In, Out, Row}
-use Rattle.ll1.proofs.Tests.{_and_, _implies_, Claims, sameNext, has, within, apart, firsts, emptyRow, beginRow}
+use Rattle.ll1.proofs.Tests.{_implies_, Claims, sameNext, has, within, apart, firsts, emptyRow, beginRow}
 
 pub clash : {A : Type 0} → Path Bool true false → A
 clash e = absurd (true≢false e)
 
-pub and-left : (a b : Bool) → a and b ≡ true → a ≡ true
+pub and-left : (a b : Bool) → a && b ≡ true → a ≡ true
 and-left true b e = refl
 and-left false b e = clash (sym e)
 
-pub and-right : (a b : Bool) → a and b ≡ true → b ≡ true
+pub and-right : (a b : Bool) → a && b ≡ true → b ≡ true
 and-right true b e = e
 and-right false b e = clash (sym e)
 
@@ -126,7 +126,7 @@ module _ {K P : Type 0} (C : Claims K P) where
 
       go : (t : Bool) → (has C (beginRow C z p) x ≡ true → (has C (beginRow C [] p) x ≡ true) ⊎ ((emptyRow C p ≡ true) × (has C z x ≡ true)))
           → has C (F ++ elim t [ true ↦ beginRow C z p | false ↦ [] ]) x ≡ true
-          → (has C (F ++ elim t [ true ↦ beginRow C [] p | false ↦ [] ]) x ≡ true) ⊎ ((t and emptyRow C p ≡ true) × (has C z x ≡ true))
+          → (has C (F ++ elim t [ true ↦ beginRow C [] p | false ↦ [] ]) x ≡ true) ⊎ ((t && emptyRow C p ≡ true) × (has C z x ≡ true))
       go false k e = inl e
       go true k e = two (has-cases F (beginRow C z p) x e)
         where

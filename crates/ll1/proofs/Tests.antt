@@ -1,6 +1,6 @@
 -- What one word of looking ahead needs: claims on a grammar's parts, and the tests, by computation, that the claims are kept and part the rules.
 -- Assumes nothing.
-use mathlib.Core.Bool.{Bool, true, false}
+use mathlib.Core.Bool.{Bool, true, false, _&&_}
 use mathlib.Core.Path.{_≡_}
 use mathlib.Core.List.{List, [], _∷_, _++_, map}
 use mathlib.Core.Option.{Option, none, some}
@@ -8,11 +8,6 @@ use Prim.Native.Nat.{ℕ, suc}
 use lib.Dec.{ltb}
 use Rattle.ll1.specs.Grammar.{word, part, In, Out, Row, Grammar}
 
-abbrev pub _and_ : Bool → Bool → Bool
-true and b = b
-false and b = false
-
-infixr 40 _and_
 abbrev pub _implies_ : Bool → Bool → Bool
 true implies b = b
 false implies b = true
@@ -43,11 +38,11 @@ module _ {K P : Type 0} (C : Claims K P) where
 
   unfoldable pub within : List (Option K) → List (Option K) → Bool
   within [] l = true
-  within (x ∷ k) l = has l x and within k l
+  within (x ∷ k) l = has l x && within k l
 
   unfoldable pub apart : List (Option K) → List (Option K) → Bool
   apart [] l = true
-  apart (x ∷ k) l = (has l x implies false) and apart k l
+  apart (x ∷ k) l = (has l x implies false) && apart k l
 
   abbrev pub firsts : P → List (Option K)
   firsts n = map some (C .first n)
@@ -55,7 +50,7 @@ module _ {K P : Type 0} (C : Claims K P) where
   unfoldable pub emptyRow : Row K P → Bool
   emptyRow [] = true
   emptyRow (word t ∷ r) = false
-  emptyRow (part n ∷ r) = C .empty n and emptyRow r
+  emptyRow (part n ∷ r) = C .empty n && emptyRow r
   emptyRow (In ∷ r) = emptyRow r
   emptyRow (Out ∷ r) = emptyRow r
 
@@ -78,36 +73,36 @@ module _ {K P : Type 0} (C : Claims K P) where
   unfoldable pub follows : P → Row K P → Bool
   follows n [] = true
   follows n (word t ∷ r) = follows n r
-  follows n (part m ∷ r) = within (beginRow (C .follow n) r) (C .follow m) and follows n r
-  follows n (In ∷ r) = opensWord r and follows n r
+  follows n (part m ∷ r) = within (beginRow (C .follow n) r) (C .follow m) && follows n r
+  follows n (In ∷ r) = opensWord r && follows n r
   follows n (Out ∷ r) = follows n r
 
   -- no part stands first in a row that does not rank above it
   unfoldable pub falls : P → Row K P → Bool
   falls n [] = true
   falls n (word t ∷ r) = true
-  falls n (part m ∷ r) = ltb (C .rank m) (C .rank n) and (C .empty m implies falls n r)
+  falls n (part m ∷ r) = ltb (C .rank m) (C .rank n) && (C .empty m implies falls n r)
   falls n (In ∷ r) = falls n r
   falls n (Out ∷ r) = falls n r
 
   -- a row of n keeps what is claimed of n
   unfoldable pub keeps : P → Row K P → Bool
-  keeps n p = within (beginRow [] p) (firsts n) and ((emptyRow p implies C .empty n) and (follows n p and falls n p))
+  keeps n p = within (beginRow [] p) (firsts n) && ((emptyRow p implies C .empty n) && (follows n p && falls n p))
 
   -- no next word calls for both p and a later row
   unfoldable pub differs : P → Row K P → List (Row K P) → Bool
   differs n p [] = true
-  differs n p (q ∷ qs) = apart (beginRow (C .follow n) p) (beginRow (C .follow n) q) and differs n p qs
+  differs n p (q ∷ qs) = apart (beginRow (C .follow n) p) (beginRow (C .follow n) q) && differs n p qs
 
   unfoldable pub allDiffer : P → List (Row K P) → Bool
   allDiffer n [] = true
-  allDiffer n (p ∷ ps) = keeps n p and (differs n p ps and allDiffer n ps)
+  allDiffer n (p ∷ ps) = keeps n p && (differs n p ps && allDiffer n ps)
 
   -- every part of the row is smaller than n
   unfoldable pub smaller : P → Row K P → Bool
   smaller n [] = true
   smaller n (word t ∷ r) = smaller n r
-  smaller n (part m ∷ r) = ltb (C .size m) (C .size n) and smaller n r
+  smaller n (part m ∷ r) = ltb (C .size m) (C .size n) && smaller n r
   smaller n (In ∷ r) = smaller n r
   smaller n (Out ∷ r) = smaller n r
 
