@@ -1,6 +1,6 @@
 -- The tree of a program, read off its derivation: for each row of the grammar, what it makes of the values in it.
 -- Assumes nothing.
-use mathlib.Core.Bool.{Bool, true, false}
+use mathlib.Core.Bool.{Bool, true, false, cond}
 use mathlib.Core.List.{List, [], _∷_, _++_, map}
 use mathlib.Core.Option.{Option, none, some}
 use Prim.Native.Nat.{ℕ, suc}
@@ -12,7 +12,7 @@ use Rattle.meaning.specs.Tree as tree
 use Rattle.meaning.specs.Tree.{plus, minus, times, quotient, remainder, equal, unequal, greater, less, and, or, Expr, literal, truth, variable, bit, not, int, arithmetic, comparison, logic, raise, lower, invert, whole, part, Head, Stmt, skip, delay, change, assign, choice, while, loop, exit, break, switch, parallel, Stmts, end, _⨾_, _∥_}
 use Rattle.meaning.specs.Declared as declared
 use Rattle.meaning.specs.Declared.{high, low, inputs, outputs, internals, integers, Source}
-use Rattle.language.specs.Words.{bytes, choose, same, valueOf, Kind, Word}
+use Rattle.language.specs.Words.{bytes, same, valueOf, Kind, Word}
 use Rattle.language.specs.Words as cut
 use Rattle.language.specs.Grammar.{Part, Program, Declarations, Declaration, Inputs, MoreInputs, Ending, Booleans, MoreBooleans, BooleanStart, BooleanValue, Integers, MoreIntegers, IntegerStart, Statements, AfterStatement, NextStatement, Statement, Else, Cases, Branches, Target, Index, Tier, Further, _▸_, _▹_, ε, Strength, between, before, binding, tier, further, csml, mostLevels, wholeProgram, kinds}
 
@@ -75,7 +75,7 @@ operators =
 -- the operator of that sign, at its place
 unfoldable pub joinedBy : List Operator → String → ℕ → Expr Name → Expr Name → Expr Name
 joinedBy [] s = arithmetic plus
-joinedBy (o ∷ os) s = choose (same (bytes (o .sign)) (bytes s)) (o .joins) (joinedBy os s)
+joinedBy (o ∷ os) s = cond (same (bytes (o .sign)) (bytes s)) (o .joins) (joinedBy os s)
 
 abbrev pub nameOrBit : Name → Option ℕ → Expr Name
 nameOrBit n none = variable n
