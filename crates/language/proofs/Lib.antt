@@ -10,5 +10,4 @@ pub mod WordExamples
 pub mod GrammarExamples
 pub mod LevelExamples
 pub mod BindingExamples
-pub mod Computed
-pub mod Listings
+pub mod Listing

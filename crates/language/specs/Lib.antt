@@ -5,4 +5,4 @@ pub mod Trees
 pub mod Texts
 pub mod Tables
 pub mod Promise
-pub mod Listing
+pub mod Printed

@@ -96,13 +96,22 @@ makesFurther n (some (between ops)) = (λ v left. left, makesOperators n ops)
 makesFurther n (some (before op)) = (λ v left. left, tt)
 
 abbrev pub makesTier : (n : ℕ) (s : Option Strength) → Makes Word Val (Expr Name) (tier n s)
-makesTier n none =
-    (λ v. nameOrBit (nameAt (v .0)) (v .1 .0),
-    (λ v. literal (v .0 .place) (numberAt (v .0)),
-    (λ v. truth (v .0 .place) true,
-    (λ v. truth (v .0 .place) false,
-    (λ v. int (v .0 .place) (v .1 .1 .0),
-    (λ v. v .1 .0, tt))))))
+makesTier n none = (
+  λ v. nameOrBit (nameAt (v .0)) (v .1 .0),
+  (
+    λ v. literal (v .0 .place) (numberAt (v .0)),
+    (
+      λ v. truth (v .0 .place) true,
+      (
+        λ v. truth (v .0 .place) false,
+        (
+          λ v. int (v .0 .place) (v .1 .1 .0),
+          (λ v. v .1 .0, tt),
+        ),
+      ),
+    ),
+  ),
+)
 makesTier n (some (between ops)) = (λ v. v .1 .0 (v .0), tt)
 makesTier n (some (before op)) = (λ v. not (v .0 .place) (v .1 .0), (λ v. v .0, tt))
 
@@ -126,20 +135,43 @@ makes IntegerStart = (λ v. 0, (λ v. numberAt (v .1 .0), tt))
 makes Statements = (λ v. v .0 ⨾ v .1 .0, tt)
 makes AfterStatement = (λ v. end, (λ v. v .1 .0, tt))
 makes NextStatement = (λ v. end, (λ v. v .0, tt))
-makes Statement =
-    (λ v. skip (headAt (v .0)),
-    (λ v. delay (headAt (v .0)) (v .1 .0 .place) (numberAt (v .1 .0)),
-    (λ v. change (headAt (v .0)) raise (v .1 .1 .0),
-    (λ v. change (headAt (v .0)) lower (v .1 .1 .0),
-    (λ v. change (headAt (v .0)) invert (v .1 .1 .0),
-    (λ v. assign (headAt (v .0)) (nameAt (v .0)) (v .1 .1 .0),
-    (λ v. choice (headAt (v .0)) (v .1 .0) (v .1 .1 .1 .0) (v .1 .1 .1 .1 .0),
-    (λ v. while (headAt (v .0)) (v .1 .0) (v .1 .1 .1 .1 .0),
-    (λ v. loop (headAt (v .0)) (v .1 .0),
-    (λ v. exit (headAt (v .0)),
-    (λ v. switch (headAt (v .0)) (tree.case (headAt (v .1 .0)) (v .1 .1 .0) (v .1 .1 .1 .1 .0) (v .1 .1 .1 .1 .1 .0 (v .1 .1 .1 .1 .1 .1 .1 .1 .0))),
-    (λ v. break (headAt (v .0)),
-    (λ v. parallel (headAt (v .0)) (v .1 .0 ∥ v .1 .1 .1 .0 ∥ v .1 .1 .1 .1 .0), tt)))))))))))))
+makes Statement = (
+  λ v. skip (headAt (v .0)),
+  (
+    λ v. delay (headAt (v .0)) (v .1 .0 .place) (numberAt (v .1 .0)),
+    (
+      λ v. change (headAt (v .0)) raise (v .1 .1 .0),
+      (
+        λ v. change (headAt (v .0)) lower (v .1 .1 .0),
+        (
+          λ v. change (headAt (v .0)) invert (v .1 .1 .0),
+          (
+            λ v. assign (headAt (v .0)) (nameAt (v .0)) (v .1 .1 .0),
+            (
+              λ v. choice (headAt (v .0)) (v .1 .0) (v .1 .1 .1 .0) (v .1 .1 .1 .1 .0),
+              (
+                λ v. while (headAt (v .0)) (v .1 .0) (v .1 .1 .1 .1 .0),
+                (
+                  λ v. loop (headAt (v .0)) (v .1 .0),
+                  (
+                    λ v. exit (headAt (v .0)),
+                    (
+                      λ v. switch (headAt (v .0)) (tree.case (headAt (v .1 .0)) (v .1 .1 .0) (v .1 .1 .1 .1 .0) (v .1 .1 .1 .1 .1 .0 (v .1 .1 .1 .1 .1 .1 .1 .1 .0))),
+                      (
+                        λ v. break (headAt (v .0)),
+                        (λ v. parallel (headAt (v .0)) (v .1 .0 ∥ v .1 .1 .1 .0 ∥ v .1 .1 .1 .1 .0), tt),
+                      ),
+                    ),
+                  ),
+                ),
+              ),
+            ),
+          ),
+        ),
+      ),
+    ),
+  ),
+)
 makes Else = (λ v. end, (λ v. v .1 .0, tt))
 makes Cases = (λ v last. tree.default last, (λ v last. tree.case (headAt (v .0)) (v .1 .0) (v .1 .1 .1 .0) (v .1 .1 .1 .1 .0 last), tt))
 makes Branches = (λ v. tree.none, (λ v. v .1 .0 ∥ v .1 .1 .0, tt))

@@ -1,4 +1,4 @@
--- A text's listing, computed.
+-- The listing of a text, computed through all definitions: words, grammar, tree, faults, clock, states.
 -- Assumes nothing.
 use mathlib.Core.Bool.{Bool, true, false, cond}
 use mathlib.Core.List.{List, [], _∷_, map}
@@ -13,7 +13,7 @@ use Rattle.ll1.proofs.Derived.{derived}
 use Rattle.ll1.proofs.Answered.{answerOf}
 use Rattle.reach_law.specs.Search.{nextNumber, find}
 use Rattle.file_law.specs.Answer.{listed}
-use Rattle.file_law.specs.Table.{Table, Row}
+use Rattle.file_law.specs.Table.{mostStates, Table, Row}
 use Rattle.meaning.specs.States.{Program, State, startState, outputsOf}
 use Rattle.meaning.specs.Declared.{Source}
 use Rattle.meaning.specs.Checked.{programOf}
@@ -26,9 +26,10 @@ use Rattle.language.specs.Grammar.{csml, mostLevels, wholeProgram, kinds
 use Rattle.language.specs.Trees.{sourceOf}
 use Rattle.language.specs.Texts.{mostBytes, Reading, good, refused}
 use Rattle.language.specs.Tables.{machineOf}
-use Rattle.language.specs.Listing.{listingOf, refusalLine}
+use Rattle.language.specs.Printed.{listingOf, refusalLine}
 use Rattle.language.proofs.Claims.{claims, passes}
 
+-- steps enough for the grammar, which never takes so many
 abbrev pub steps : List Word → ℕ
 steps ws = 200 * suc (length ws)
 
@@ -65,9 +66,14 @@ abbrev pub listingFrom : Source → Option (List State) → List ℕ
 listingFrom s none = refusalLine 11 0
 listingFrom s (some L) = listingOf s (tableOf (programOf s) L)
 
-abbrev pub listingBy : Reading → List ℕ
-listingBy (refused number place) = refusalLine number place
-listingBy (good s) = listingFrom s (find sameState (machineOf (programOf s)) 256)
+abbrev pub listingBy : ℕ → Reading → List ℕ
+listingBy room (refused number place) = refusalLine number place
+listingBy room (good s) = listingFrom s (find sameState (machineOf (programOf s)) room)
 
+-- what a listing in some room would print
+unfoldable pub listingIn : ℕ → List ℕ → List ℕ
+listingIn room s = listingBy room (readingOf s)
+
+-- "The listing program reads source on standard input with room 256"
 unfoldable pub listing : List ℕ → List ℕ
-listing s = listingBy (readingOf s)
+listing s = listingIn mostStates s

@@ -1,4 +1,4 @@
--- The listing: "The listing program reads source on standard input with room 256 and prints this, or `refused N at P`".
+-- How a listing is printed: "prints this, or `refused N at P`".
 -- Assumes nothing.
 use mathlib.Core.Bool.{Bool, true, false, cond}
 use mathlib.Core.List.{List, [], _∷_, _++_, map}
