@@ -11,3 +11,6 @@ pub mod GrammarExamples
 pub mod LevelExamples
 pub mod BindingExamples
 pub mod Listing
+pub mod OneReading
+pub mod OneTable
+pub mod OneAnswer

@@ -1,0 +1,78 @@
+-- A program has one table and so one file: its numbering, its rows and its bytes depend on the program alone.
+-- Assumes nothing.
+use mathlib.Core.Path.{_≡_, refl, sym, _∙_, ap, subst}
+use mathlib.Core.List.{List}
+use Prim.Native.Nat.{ℕ, _^_, _<_}
+use native.Mathlib.Omega.{arith}
+use lib.ListN.{length, getD}
+use lib.Seq.{ext-getD}
+use Rattle.reach_law.specs.Numbering.{Numbering}
+use Rattle.reach_law.specs.Search.{nextNumber}
+use Rattle.reach_law.proofs.Unique.{one-numbering}
+use Rattle.reach_law.proofs.Next.{one-next, next-number}
+use Rattle.file_law.specs.Answer.{listed}
+use Rattle.file_law.specs.Table.{Table, Row, noRow, rowOf, nextOf}
+use Rattle.file_law.specs.File.{streamOf, fileOf}
+use Rattle.file_law.proofs.Every.{length-listed}
+use Rattle.file_law.proofs.Listed.{listed-at}
+use Rattle.meaning.specs.States.{Program, State, startState, outputsOf}
+use Rattle.meaning.specs.Declared.{Source}
+use Rattle.meaning.specs.Checked.{programOf}
+use Rattle.meaning.proofs.Equal.{sameState}
+use Rattle.language.specs.Tables.{machineOf, Tabled}
+use Rattle.language.specs.Promise.{FileOf}
+use Rattle.language.proofs.Listing.{tableOf}
+
+-- ---- no second table
+
+module _ {p : Program} {states : List State} (u : Numbering (machineOf p) states) {t v : Table} (a : Tabled p states t) (b : Tabled p states v) where
+  same-nexts : (i : ℕ) → i < length states → rowOf t i .nexts ≡ rowOf v i .nexts
+  same-nexts i h =
+      ext-getD 0 (rowOf t i .nexts) (rowOf v i .nexts) (a .wide i h ∙ sym (b .wide i h))
+      (λ x k. let l : x < 2 ^ p .inputs = omega (arith, a .wide i h) in one-next u (a .leads i x h l) (b .leads i x h l))
+
+  same-row : (i : ℕ) → i < length states → rowOf t i ≡ rowOf v i
+  same-row i h = λ j. record { outputs = (a .shows i h ∙ sym (b .shows i h)) j; nexts = same-nexts i h j }
+
+  same-rows : t .rows ≡ v .rows
+  same-rows = ext-getD noRow (t .rows) (v .rows) (a .size ∙ sym (b .size)) (λ i h. same-row i (omega (arith, a .size)))
+
+  pub one-table : t ≡ v
+  one-table = λ j. record { inputs = (a .inputs ∙ sym (b .inputs)) j; outputs = (a .outputs ∙ sym (b .outputs)) j; rows = same-rows j }
+
+-- ---- no second file
+
+pub one-file : {s : Source} {states states₁ : List State} {file file₁ : List ℕ} → FileOf s states file → FileOf s states₁ file₁ → (states ≡ states₁) × (file ≡ file₁)
+one-file {s} {states} {states₁} {file} {file₁} a b =
+    let e : states ≡ states₁ = one-numbering (a .numbers) (b .numbers) in
+    let tabled : Tabled (programOf s) states (b .table) = subst (λ (l : List State). Tabled (programOf s) l (b .table)) (sym e) (b .tabled) in
+    (e, a .bytes ∙ ap (λ (t : Table). fileOf (streamOf t)) (one-table (a .numbers) (a .tabled) tabled) ∙ sym (b .bytes))
+
+-- ---- there is one
+
+abbrev stateRow : Program → List State → ℕ → Row
+stateRow p states i = record { outputs = outputsOf p (getD states i (startState p)); nexts = listed (nextNumber sameState (machineOf p) states i) (2 ^ p .inputs) 0 }
+
+module _ (p : Program) {states : List State} (u : Numbering (machineOf p) states) where
+  row-at : (i : ℕ) → i < length states → rowOf (tableOf p states) i ≡ stateRow p states i
+  unfolding tableOf
+  row-at i h = listed-at (stateRow p states) (length states) noRow i h
+
+  next-at : (i x : ℕ) → i < length states → x < 2 ^ p .inputs → nextOf (tableOf p states) i x ≡ nextNumber sameState (machineOf p) states i x
+  next-at i x h k =
+      ap (λ (r : Row). getD (r .nexts) x 0) (row-at i h) ∙ listed-at (nextNumber sameState (machineOf p) states i) (2 ^ p .inputs) 0 x k
+
+  pub some-table : Tabled p states (tableOf p states)
+  unfolding tableOf machineOf
+  some-table =
+      record {
+        inputs = refl;
+        outputs = refl;
+        size = length-listed (stateRow p states) (length states) 0;
+        wide = λ i h. ap (λ (r : Row). length (r .nexts)) (row-at i h) ∙ length-listed (nextNumber sameState (machineOf p) states i) (2 ^ p .inputs) 0;
+        shows = λ i h. ap (λ (r : Row). r .outputs) (row-at i h);
+        leads = λ i x h k. rw (next-at i x h k) (next-number u sameState i x h k);
+      }
+
+pub some-file : (s : Source) (states : List State) → Numbering (machineOf (programOf s)) states → FileOf s states (fileOf (streamOf (tableOf (programOf s) states)))
+some-file s states u = record { table = tableOf (programOf s) states; numbers = u; tabled = some-table (programOf s) u; bytes = refl }
