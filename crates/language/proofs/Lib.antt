@@ -14,3 +14,4 @@ pub mod Listing
 pub mod OneReading
 pub mod OneTable
 pub mod OneAnswer
+pub mod Fits
