@@ -15,3 +15,4 @@ pub mod OneReading
 pub mod OneTable
 pub mod OneAnswer
 pub mod Fits
+pub mod Success
