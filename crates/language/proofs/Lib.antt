@@ -16,3 +16,4 @@ pub mod OneTable
 pub mod OneAnswer
 pub mod Fits
 pub mod Success
+pub mod Demands

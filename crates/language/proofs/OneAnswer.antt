@@ -61,11 +61,11 @@ not-short : {A : Type 0} {text : List ℕ} {s v : Source} {states states₁ : Li
 not-short x f h y g k = let e = ap length (one-file-of x f y g .1) in absurd (omega arith)
 
 -- a room and a work area that are ready
-not-one : {A : Type 0} {room : ℕ} → (room < 1) ⊎ (mostStates < room) → RoomFits room → A
+pub not-one : {A : Type 0} {room : ℕ} → (room < 1) ⊎ (mostStates < room) → RoomFits room → A
 not-one (inl h) r = absurd (omega arith)
 not-one (inr h) r = absurd (omega arith)
 
-not-two : {A : Type 0} {l : Lent} → length (l .work) < workNeeded (l .room) → Ready l → A
+pub not-two : {A : Type 0} {l : Lent} → length (l .work) < workNeeded (l .room) → Ready l → A
 not-two h r = absurd (omega arith)
 
 abbrev makes : Lent → List State → List ℕ → Ended
