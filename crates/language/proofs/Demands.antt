@@ -136,10 +136,10 @@ more-room {l} {k} {e} {f} {m} c p same h r b d =
     let q : f .answer ≡ gives m = ap (λ (x : Ended). x .answer) (one-answer d (made r reads (y .filed) (omega (arith, y .room)) (omega (arith, whole-blocks y)))) ∙ ap gives (y .gave) in
     (q, text-fixed d q c p (sym same) .1)
 
-same-number : (number place number₁ place₁ : ℕ) → _≡_ {A = Answer Made} (refuses number place) (refuses number₁ place₁) → number ≡ number₁
+pub same-number : (number place number₁ place₁ : ℕ) → _≡_ {A = Answer Made} (refuses number place) (refuses number₁ place₁) → number ≡ number₁
 same-number number place number₁ place₁ p = cc
 
-not-given : {A : Type 0} (m : Made) (number place : ℕ) → gives m ≡ refuses number place → A
+pub not-given : {A : Type 0} (m : Made) (number place : ℕ) → gives m ≡ refuses number place → A
 not-given m number place p = let z : _≡_ {A = ℕ} 0 1 = cc in absurd (omega arith)
 
 -- "11 | reachable states above the room": exactly then

@@ -17,3 +17,4 @@ pub mod OneAnswer
 pub mod Fits
 pub mod Success
 pub mod Demands
+pub mod Areas
