@@ -41,7 +41,7 @@ one-tree j l ks d e x y = one-derivation claims csml passes j l program-good x y
 apart : {A : Type 0} (e : ℕ) (ws : List Word) → words ws ≡ cut.refused e → A
 apart e ws p = let z : _≡_ {A = ℕ} 0 1 = cc in absurd (omega arith)
 
-same-words : (ws vs : List Word) → words ws ≡ words vs → ws ≡ vs
+pub same-words : (ws vs : List Word) → words ws ≡ words vs → ws ≡ vs
 same-words ws vs p = cc
 
 same-place : (e f : ℕ) → cut.refused e ≡ cut.refused f → e ≡ f

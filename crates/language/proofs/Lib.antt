@@ -10,4 +10,5 @@ pub mod WordExamples
 pub mod GrammarExamples
 pub mod LevelExamples
 pub mod BindingExamples
+pub mod Readings
 pub mod Listing
