@@ -1,8 +1,8 @@
 -- Trials of document 01 on the definitions, one table under one claim, each computed.
 -- Assumes nothing.
 use mathlib.Core.Path.{_≡_, refl, ap}
-use Prim.Native.Nat.{ℕ, _-_}
-use mathlib.Core.Bool.{Bool, true}
+use Prim.Native.Nat.{ℕ, _-_, _*_}
+use mathlib.Core.Bool.{Bool, true, false}
 use mathlib.Core.List.{List, [], _∷_, _++_}
 use lib.Dec.{eqb}
 use lib.ListN.{length, set, take, replicate}
@@ -11,9 +11,9 @@ use Rattle.crc_law.proofs.Quick.{same-register}
 use Rattle.file_law.specs.Answer.{Answer, gives, refuses, unsound, unless, both, every, firstNot, listed}
 use Rattle.file_law.specs.Bytes.{low4, word2, word4}
 use Rattle.file_law.specs.Table.{Table, Running}
-use Rattle.file_law.specs.File.{words, rowBytes, rowsBytes, streamOf, pieceOf, bodyOf, blockOf, blocks, fileOf}
-use Rattle.file_law.specs.Reading.{blockGood, streamIn, outputsAt, nextAt, rowsGood, contentGood, blocksAnswer, openAnswer, tableIn}
-use Rattle.file_law.specs.Stepping.{shapeGood, standAnswer, moveAnswer, stepAnswer, lookAnswer, outputsAnswer, startIn, startAnswer, after, stepsFrom, runAnswers}
+use Rattle.file_law.specs.File.{words, rowBytes, rowsBytes, streamOf, pieceOf, bodyOf, blockOf, blocks, blockCount, fileOf}
+use Rattle.file_law.specs.Reading.{lengthGood, blockGood, streamIn, blocksFor, outputsAt, nextAt, rowsGood, contentGood, blocksAnswer, openAnswer, tableIn}
+use Rattle.file_law.specs.Stepping.{shapeGood, standAnswer, moveAnswer, stepAnswer, lookAnswer, outputsAnswer, startIn, startAnswer, after, stepsFrom, runAnswers, stepCode, outputsCode, openCode}
 
 -- "Blink, complete"
 abbrev blink : Table
@@ -52,6 +52,20 @@ pub record Trials : Type 0 where
   pub damaged : openAnswer (set file 2 2) ≡ refuses 13 0
   pub spare : stepAnswer (set file 14 3) 0 1 ≡ refuses 13 0
   pub beyond : stepAnswer (set file 12 2) 0 1 ≡ refuses 13 0
+  -- "The stream is cut in 504-byte pieces": one that fills its last piece takes no other
+  pub full-piece : blockCount 504 ≡ 1
+  pub next-piece : blockCount 505 ≡ 2
+  -- "The largest file is 67 blocks."
+  pub largest : blocksFor 6 256 ≡ 67
+  pub longest : lengthGood (512 * 67) ≡ true
+  pub over : lengthGood (512 * 68) ≡ false
+  -- "it gets a next state, or 65,536 plus the refusal number"
+  pub next-code : stepCode (at 1 9) ≡ 1
+  pub refusal-code : stepCode (refuses 14 0) ≡ 65550
+  pub outputs-code : outputsCode (at 1 9) ≡ 9
+  pub no-outputs-code : outputsCode (refuses 14 0) ≡ 65550
+  pub start-code : openCode (at 0 9) ≡ 9
+  pub place-code : openCode (refuses 13 5) ≡ 0xD00000005
   pub run : runAnswers file (record { state = 9; outputs = 9 }) (1 ∷ 0 ∷ 2 ∷ 1 ∷ []) ≡ at 0 0 ∷ at 1 1 ∷ at 1 1 ∷ refuses 14 0 ∷ at 0 0 ∷ []
 
 -- the check of the block, computed once
@@ -93,5 +107,16 @@ trials =
       damaged = refl;
       spare = refl;
       beyond = refl;
+      full-piece = refl;
+      next-piece = refl;
+      largest = refl;
+      longest = refl;
+      over = refl;
+      next-code = refl;
+      refusal-code = refl;
+      outputs-code = refl;
+      no-outputs-code = refl;
+      start-code = refl;
+      place-code = refl;
       run = ap (λ (a : Answer Running). a ∷ stepsFrom file (after a (record { state = 9; outputs = 9 })) (1 ∷ 0 ∷ 2 ∷ 1 ∷ [])) started;
     }

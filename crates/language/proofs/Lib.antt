@@ -10,6 +10,7 @@ pub mod WordExamples
 pub mod GrammarExamples
 pub mod LevelExamples
 pub mod BindingExamples
+pub mod Readings
 pub mod Listing
 pub mod OneReading
 pub mod OneTable

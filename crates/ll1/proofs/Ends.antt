@@ -31,7 +31,7 @@ module _ {K P : Type 0} (C : Claims K P) (G : Grammar K P) (test : Passes C G) w
   Later [] = Unit
   Later (s ∷ w) = (a : Row K P) → Finds w a
 
-  finds-word : (w : List K) → Later w → (t : K) (r : Row K P) → Finds w (word t ∷ r)
+  unfoldable pub finds-word : (w : List K) → Later w → (t : K) (r : Row K P) → Finds w (word t ∷ r)
   unfolding run
   finds-word [] l t r k = (1, tt)
   finds-word (s ∷ w) l t r k = let (f, d) = l r k in (suc f, go (C .same t s) f d)
@@ -40,7 +40,7 @@ module _ {K P : Type 0} (C : Claims K P) (G : Grammar K P) (test : Passes C G) w
       go true f d = d
       go false f d = tt
 
-  barred-done : (r : Row K P) (w : List K) → Done (barred C G r w)
+  pub barred-done : (r : Row K P) (w : List K) → Done (barred C G r w)
   unfolding barred
   barred-done [] w = tt
   barred-done (word t ∷ r) [] = tt
@@ -53,16 +53,16 @@ module _ {K P : Type 0} (C : Claims K P) (G : Grammar K P) (test : Passes C G) w
   barred-done (In ∷ r) w = tt
   barred-done (Out ∷ r) w = tt
 
-  finds-into : (w : List K) (r : Row K P) → Finds w r → Finds w (In ∷ r)
+  unfoldable pub finds-into : (w : List K) (r : Row K P) → Finds w r → Finds w (In ∷ r)
   unfolding run
   finds-into w r x zero = (1, barred-done r w)
   finds-into w r x (suc k) = let (f, d) = x k in (suc f, d)
 
-  finds-out : (w : List K) (r : Row K P) → Finds w r → Finds w (Out ∷ r)
+  unfoldable pub finds-out : (w : List K) (r : Row K P) → Finds w r → Finds w (Out ∷ r)
   unfolding run
   finds-out w r x k = let (f, d) = x (suc k) in (suc f, d)
 
-  finds-rule : (w : List K) (n : P) (r : Row K P) → ((i : ℕ) → i < length (G n) → Finds w (rowAt G n i ++ r)) → Finds w (part n ∷ r)
+  unfoldable pub finds-rule : (w : List K) (n : P) (r : Row K P) → ((i : ℕ) → i < length (G n) → Finds w (rowAt G n i ++ r)) → Finds w (part n ∷ r)
   unfolding run
   finds-rule w n r x k = let (f, d) = go (pick C n (look w) 0 (G n)) refl in (suc f, d)
     where
@@ -77,7 +77,7 @@ module _ {K P : Type 0} (C : Claims K P) (G : Grammar K P) (test : Passes C G) w
       go (some i) e = let (f, d) = x i (picked-at C G test n (look w) i e) k in (f, done i (run C G f k (rowAt G n i ++ r) w) d)
 
   -- the row p of a rule of n, where the parts of lower rank are read
-  finds-row : (w : List K) → Later w → (n : P) (r : Row K P)
+  unfoldable pub finds-row : (w : List K) → Later w → (n : P) (r : Row K P)
       → ((m : P) → C .rank m < C .rank n → (q : Row K P) → (C .empty m ≡ true → Finds w q) → Finds w (part m ∷ q))
       → (p : Row K P) → falls C n p ≡ true → (emptyRow C p ≡ true → Finds w r) → Finds w (p ++ r)
   unfolding falls emptyRow
@@ -89,13 +89,13 @@ module _ {K P : Type 0} (C : Claims K P) (G : Grammar K P) (test : Passes C G) w
   finds-row w l n r lower (In ∷ p) e x = finds-into w (p ++ r) (finds-row w l n r lower p e x)
   finds-row w l n r lower (Out ∷ p) e x = finds-out w (p ++ r) (finds-row w l n r lower p e x)
 
-  finds-low : (w : List K) → Later w → (b : ℕ) (n : P) → C .rank n < b → (r : Row K P) → (C .empty n ≡ true → Finds w r) → Finds w (part n ∷ r)
+  unfoldable pub finds-low : (w : List K) → Later w → (b : ℕ) (n : P) → C .rank n < b → (r : Row K P) → (C .empty n ≡ true → Finds w r) → Finds w (part n ∷ r)
   finds-low w l zero n h r x = absurd (omega arith)
   finds-low w l (suc b) n h r x =
       finds-rule w n r
       (λ i o. finds-row w l n r (λ m g. finds-low w l b m (omega arith)) (rowAt G n i) (keeps-at C G test n i o .lower) (λ v. x (rw v at (keeps-at C G test n i o .vanishes))))
 
-  finds-any : (w : List K) → Later w → (a : Row K P) → Finds w a
+  unfoldable pub finds-any : (w : List K) → Later w → (a : Row K P) → Finds w a
   unfolding run
   finds-any [] l [] = λ k. (1, tt)
   finds-any (s ∷ w) l [] = λ k. (1, tt)
@@ -108,6 +108,6 @@ module _ {K P : Type 0} (C : Claims K P) (G : Grammar K P) (test : Passes C G) w
   finds-any [] l (Out ∷ r) = finds-out [] r (finds-any [] l r)
   finds-any (s ∷ w) l (Out ∷ r) = finds-out (s ∷ w) r (finds-any (s ∷ w) l r)
 
-  pub finds : (w : List K) (a : Row K P) → Finds w a
+  unfoldable pub finds : (w : List K) (a : Row K P) → Finds w a
   finds [] = finds-any [] tt
   finds (s ∷ w) = finds-any (s ∷ w) (finds w)

@@ -6,6 +6,15 @@ ghost use Rattle.file_law.specs.Stepping.{Sized, standAnswer, moveAnswer, stepA
 ghost use Rattle.stepper.specs.Meaning.{meaning};
 use reader::Opened;
 
+// "table file not sound"
+const UNSOUND: u32 = 13;
+
+// "state or input not in the table"
+const NOT_IN_TABLE: u32 = 14;
+
+// "65,536 plus the refusal number": no state and no outputs reach it
+const REFUSAL: u32 = 65536;
+
 // Where the controller stands, with its outputs, or a refusal with its number and place.
 pub enum Stands {
     At { state: u32, outputs: u32 },
@@ -25,7 +34,7 @@ fn stand_in(file: &[u8], k: u32, o: u32, n: u32, state: u32) -> Stands
 {
     let outputs = reader::outputs_at(file, k, state);
     if reader::pow2(o) <= outputs {
-        return refused(13);
+        return refused(UNSOUND);
     }
     Stands::At { state, outputs }
 }
@@ -36,14 +45,14 @@ fn move_in(file: &[u8], k: u32, o: u32, n: u32, state: u32, input: u32) -> Stand
     ensures { λ r. ⌜ meaning r ≡ moveAnswer (streamIn (now (file .entry))) k o n state input ⌝ }
 {
     if n <= state {
-        return refused(14);
+        return refused(NOT_IN_TABLE);
     }
     if reader::pow2(k) <= input {
-        return refused(14);
+        return refused(NOT_IN_TABLE);
     }
     let next = reader::next_at(file, k, state, input);
     if n <= next {
-        return refused(13);
+        return refused(UNSOUND);
     }
     stand_in(file, k, o, n, next)
 }
@@ -54,7 +63,7 @@ fn look_in(file: &[u8], k: u32, o: u32, n: u32, state: u32) -> Stands
     ensures { λ r. ⌜ meaning r ≡ lookAnswer (streamIn (now (file .entry))) k o n state ⌝ }
 {
     if n <= state {
-        return refused(14);
+        return refused(NOT_IN_TABLE);
     }
     stand_in(file, k, o, n, state)
 }
@@ -115,7 +124,7 @@ pub extern "C" fn windnadel_step(file: &[u8], state: u32, input: u32) -> u32
     let stands = step(file, state, input);
     match stands {
         Stands::At { state, outputs: _ } => state,
-        Stands::Refused { number, place: _ } => 65536 + number,
+        Stands::Refused { number, place: _ } => REFUSAL + number,
     }
 }
 
@@ -127,7 +136,7 @@ pub extern "C" fn windnadel_outputs(file: &[u8], state: u32) -> u32
     let stands = outputs(file, state);
     match stands {
         Stands::At { state: _, outputs } => outputs,
-        Stands::Refused { number, place: _ } => 65536 + number,
+        Stands::Refused { number, place: _ } => REFUSAL + number,
     }
 }
 
