@@ -1,12 +1,12 @@
 -- What a compile leaves in the lent work area and file buffer.
 -- Assumes nothing.
-use mathlib.Core.Path.{_≡_, refl, sym, ap, _∙_}
+use mathlib.Core.Path.{_≡_, refl, ap}
 use mathlib.Core.List.{List, [], _∷_}
 use mathlib.Core.Option.{Option, none, some}
 use Prim.Native.Nat.{ℕ, _*_, _/_, _≤_}
 use native.Mathlib.Omega.{arith}
 use lib.ListN.{length, drop, length-append, length-drop}
-use Rattle.file_law.specs.Answer.{Answer, gives, refuses}
+use Rattle.file_law.specs.Answer.{gives, refuses}
 use Rattle.meaning.specs.Declared.{Source}
 use Rattle.meaning.specs.Names.{nameFaults}
 use Rattle.meaning.specs.Kinds.{kindFaults}

@@ -14,7 +14,7 @@ use Rattle.reach_law.proofs.Unique.{numbering-counts, count-above, above-count}
 use Rattle.reach_law.proofs.Next.{shown-same}
 use Rattle.file_law.specs.Answer.{Answer, gives, refuses}
 use Rattle.file_law.specs.Table as file
-use Rattle.file_law.specs.Table.{mostStates, Table, nextOf, Running, clocks, tableRun}
+use Rattle.file_law.specs.Table.{Table, nextOf, Running, clocks, tableRun}
 use Rattle.file_law.specs.File.{streamOf, fileOf}
 use Rattle.file_law.specs.Reading.{Sizes, openAnswer}
 use Rattle.file_law.specs.Stepping.{runAnswers}
@@ -24,7 +24,7 @@ use Rattle.meaning.specs.Declared.{Source}
 use Rattle.meaning.specs.Checked.{programOf}
 use Rattle.language.specs.Texts.{good, refused, Reads}
 use Rattle.language.specs.Tables.{machineOf, Tabled}
-use Rattle.language.specs.Promise.{RoomFits, workNeeded, Made, Lent, Ended, Ready, FileOf, Compiles, one, two, fault, eleven, twelve, made}
+use Rattle.language.specs.Promise.{Made, Lent, Ended, Ready, FileOf, Compiles, one, two, fault, eleven, twelve, made}
 use Rattle.language.proofs.OneTable.{one-file}
 use Rattle.language.proofs.OneAnswer.{not-one, not-two, not-refused, one-source, one-answer}
 use Rattle.language.proofs.Success.{fileIn, Success, success, success-of, whole-blocks, file-in, fits}

@@ -12,7 +12,6 @@ pub mod LevelExamples
 pub mod BindingExamples
 pub mod Readings
 pub mod Listing
-pub mod OneReading
 pub mod OneTable
 pub mod OneAnswer
 pub mod Fits

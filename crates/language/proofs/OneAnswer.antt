@@ -1,6 +1,6 @@
 -- A compile has one end: whatever is lent, the promise allows one answer, work area and file buffer, and no second.
 -- Assumes nothing.
-use mathlib.Core.Path.{_≡_, refl, sym, _∙_, ap, ap₂, subst}
+use mathlib.Core.Path.{_≡_, refl, sym, ap, ap₂, subst}
 use mathlib.Core.Logic.{_⊎_, inl, inr}
 use mathlib.Core.List.{List, _++_}
 use Prim.Native.Nat.{ℕ, _/_, _≤_, _<_}
@@ -20,21 +20,21 @@ use Rattle.meaning.proofs.Equal.{sameState}
 use Rattle.language.specs.Texts.{Reading, good, refused, Reads}
 use Rattle.language.specs.Tables.{machineOf}
 use Rattle.language.specs.Promise.{RoomFits, workNeeded, Lent, Ended, Ready, allZero, FileOf, refusal, Compiles, one, two, fault, eleven, twelve, made}
-use Rattle.language.proofs.OneReading.{one-reading, some-reading}
+use Rattle.language.proofs.Readings.{readingOf, reading-right, one-reads}
 use Rattle.language.proofs.OneTable.{one-file, some-file}
 
 -- ---- no second end
 
 -- a text says one source
 pub one-source : {text : List ℕ} {s v : Source} → Reads text (good s) → Reads text (good v) → s ≡ v
-one-source {s = s} {v = v} x y = same (one-reading x y)
+one-source {text} {s} {v} x y = same (one-reads text x y)
   where
     same : good s ≡ good v → s ≡ v
     same p = cc
 
 -- .. or is refused
 pub not-refused : {A : Type 0} {text : List ℕ} {s : Source} {number place : ℕ} → Reads text (good s) → Reads text (refused number place) → A
-not-refused {s = s} {number = number} {place = place} x y = clash (one-reading x y)
+not-refused {text = text} {s = s} {number = number} {place = place} x y = clash (one-reads text x y)
   where
     clash : {A : Type 0} → good s ≡ refused number place → A
     clash p = let z : _≡_ {A = ℕ} 0 1 = cc in absurd (omega arith)
@@ -86,7 +86,7 @@ one-answer (two q h) (twelve r x f n k) = not-two h r
 one-answer (two q h) (made r x f n k) = not-two h r
 one-answer (fault q x) (one k) = not-one k (q .room)
 one-answer (fault q x) (two r k) = not-two k q
-one-answer {l} (fault q x) (fault r y) = same-refusal l (one-reading x y)
+one-answer {l} (fault q x) (fault r y) = same-refusal l (one-reads (l .source) x y)
 one-answer (fault q x) (eleven r y t) = not-refused y x
 one-answer (fault q x) (twelve r y f n k) = not-refused y x
 one-answer (fault q x) (made r y f n k) = not-refused y x
@@ -130,7 +130,7 @@ some-answer l = least (decLt (l .room) 1)
 
     worked : RoomFits (l .room) → Dec (length (l .work) < workNeeded (l .room)) → (e : Ended) × Compiles l e
     worked r (yes h) = (refusal l (l .work) 2 0, two r h)
-    worked r (no h) = let (a, x) = some-reading (l .source) in reading (record { room = r; work = omega arith }) a x
+    worked r (no h) = reading (record { room = r; work = omega arith }) (readingOf (l .source)) (reading-right (l .source))
 
     most : 1 ≤ l .room → Dec (mostStates < l .room) → (e : Ended) × Compiles l e
     most h (yes k) = (refusal l (l .work) 1 0, one (inr k))

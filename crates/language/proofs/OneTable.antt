@@ -4,24 +4,19 @@ use mathlib.Core.Path.{_≡_, refl, sym, _∙_, ap, subst}
 use mathlib.Core.List.{List}
 use Prim.Native.Nat.{ℕ, _^_, _<_}
 use native.Mathlib.Omega.{arith}
-use lib.ListN.{length, getD}
+use lib.ListN.{length}
 use lib.Seq.{ext-getD}
 use Rattle.reach_law.specs.Numbering.{Numbering}
-use Rattle.reach_law.specs.Search.{nextNumber}
 use Rattle.reach_law.proofs.Unique.{one-numbering}
-use Rattle.reach_law.proofs.Next.{one-next, next-number}
-use Rattle.file_law.specs.Answer.{listed}
-use Rattle.file_law.specs.Table.{Table, Row, noRow, rowOf, nextOf}
+use Rattle.reach_law.proofs.Next.{one-next}
+use Rattle.file_law.specs.Table.{Table, noRow, rowOf}
 use Rattle.file_law.specs.File.{streamOf, fileOf}
-use Rattle.file_law.proofs.Every.{length-listed}
-use Rattle.file_law.proofs.Listed.{listed-at}
-use Rattle.meaning.specs.States.{Program, State, startState, outputsOf}
+use Rattle.meaning.specs.States.{Program, State}
 use Rattle.meaning.specs.Declared.{Source}
 use Rattle.meaning.specs.Checked.{programOf}
-use Rattle.meaning.proofs.Equal.{sameState}
 use Rattle.language.specs.Tables.{machineOf, Tabled}
 use Rattle.language.specs.Promise.{FileOf}
-use Rattle.language.proofs.Listing.{tableOf}
+use Rattle.language.proofs.Listing.{tableOf, table-right}
 
 -- ---- no second table
 
@@ -50,29 +45,5 @@ one-file {s} {states} {states₁} {file} {file₁} a b =
 
 -- ---- there is one
 
-abbrev stateRow : Program → List State → ℕ → Row
-stateRow p states i = record { outputs = outputsOf p (getD states i (startState p)); nexts = listed (nextNumber sameState (machineOf p) states i) (2 ^ p .inputs) 0 }
-
-module _ (p : Program) {states : List State} (u : Numbering (machineOf p) states) where
-  row-at : (i : ℕ) → i < length states → rowOf (tableOf p states) i ≡ stateRow p states i
-  unfolding tableOf
-  row-at i h = listed-at (stateRow p states) (length states) noRow i h
-
-  next-at : (i x : ℕ) → i < length states → x < 2 ^ p .inputs → nextOf (tableOf p states) i x ≡ nextNumber sameState (machineOf p) states i x
-  next-at i x h k =
-      ap (λ (r : Row). getD (r .nexts) x 0) (row-at i h) ∙ listed-at (nextNumber sameState (machineOf p) states i) (2 ^ p .inputs) 0 x k
-
-  pub some-table : Tabled p states (tableOf p states)
-  unfolding tableOf machineOf
-  some-table =
-      record {
-        inputs = refl;
-        outputs = refl;
-        size = length-listed (stateRow p states) (length states) 0;
-        wide = λ i h. ap (λ (r : Row). length (r .nexts)) (row-at i h) ∙ length-listed (nextNumber sameState (machineOf p) states i) (2 ^ p .inputs) 0;
-        shows = λ i h. ap (λ (r : Row). r .outputs) (row-at i h);
-        leads = λ i x h k. rw (next-at i x h k) (next-number u sameState i x h k);
-      }
-
 pub some-file : (s : Source) (states : List State) → Numbering (machineOf (programOf s)) states → FileOf s states (fileOf (streamOf (tableOf (programOf s) states)))
-some-file s states u = record { table = tableOf (programOf s) states; numbers = u; tabled = some-table (programOf s) u; bytes = refl }
+some-file s states u = record { table = tableOf (programOf s) states; numbers = u; tabled = table-right (programOf s) states u; bytes = refl }
