@@ -18,3 +18,5 @@ pub mod Fits
 pub mod Success
 pub mod Demands
 pub mod Areas
+pub mod Compiled
+pub mod Blink

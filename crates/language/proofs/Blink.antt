@@ -1,0 +1,31 @@
+-- Blink and a program that does nothing, with their tables, by computation.
+-- Assumes nothing.
+use mathlib.Core.Path.{_≡_, refl}
+use mathlib.Core.List.{List, [], _∷_}
+use mathlib.Core.Option.{some}
+use Prim.Native.Nat.{ℕ}
+use Rattle.file_law.specs.Table.{Table}
+use Rattle.language.specs.Words.{bytes}
+use Rattle.language.proofs.Compiled.{compiled, Says, says}
+
+-- "Blink, complete"
+abbrev pub blinkText : List ℕ
+blinkText = bytes "program blink; input GO; output LAMP; loop if GO then invert(LAMP) endif endloop endprog"
+
+abbrev pub blink : Table
+blink = record { inputs = 1; outputs = 1; rows = record { outputs = 0; nexts = 0 ∷ 1 ∷ [] } ∷ record { outputs = 1; nexts = 1 ∷ 0 ∷ [] } ∷ [] }
+
+pub blink-says : Says blinkText blink
+unfolding compiled
+blink-says = says "program blink; input GO; output LAMP; loop if GO then invert(LAMP) endif endloop endprog" blink refl
+
+-- it stands at its only statement, and then at the end for ever
+abbrev pub idleText : List ℕ
+idleText = bytes "program p; skip endprog"
+
+abbrev pub idle : Table
+idle = record { inputs = 0; outputs = 0; rows = record { outputs = 0; nexts = 1 ∷ [] } ∷ record { outputs = 0; nexts = 1 ∷ [] } ∷ [] }
+
+pub idle-says : Says idleText idle
+unfolding compiled
+idle-says = says "program p; skip endprog" idle refl
