@@ -1,8 +1,7 @@
 -- Blink and a program that does nothing, with their tables, by computation.
 -- Assumes nothing.
-use mathlib.Core.Path.{_≡_, refl}
+use mathlib.Core.Path.{refl}
 use mathlib.Core.List.{List, [], _∷_}
-use mathlib.Core.Option.{some}
 use Prim.Native.Nat.{ℕ}
 use Rattle.file_law.specs.Table.{Table}
 use Rattle.language.specs.Words.{bytes}
@@ -19,13 +18,13 @@ pub blink-says : Says blinkText blink
 unfolding compiled
 blink-says = says "program blink; input GO; output LAMP; loop if GO then invert(LAMP) endif endloop endprog" blink refl
 
--- it stands at its only statement, and then at the end for ever
+-- "`loop skip endloop`: 1 state"
 abbrev pub idleText : List ℕ
-idleText = bytes "program p; skip endprog"
+idleText = bytes "program p; loop skip endloop endprog"
 
 abbrev pub idle : Table
-idle = record { inputs = 0; outputs = 0; rows = record { outputs = 0; nexts = 1 ∷ [] } ∷ record { outputs = 0; nexts = 1 ∷ [] } ∷ [] }
+idle = record { inputs = 0; outputs = 0; rows = record { outputs = 0; nexts = 0 ∷ [] } ∷ [] }
 
 pub idle-says : Says idleText idle
 unfolding compiled
-idle-says = says "program p; skip endprog" idle refl
+idle-says = says "program p; loop skip endloop endprog" idle refl

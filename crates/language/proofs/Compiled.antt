@@ -9,11 +9,9 @@ use native.Mathlib.Omega.{arith}
 use lib.ListN.{length}
 use Rattle.ll1.specs.Values.{make, front, back, nothing, valuesOf}
 use Rattle.ll1.proofs.Tests.{has, beginRow, pick}
-use Rattle.ll1.proofs.Parser.{barred, run}
 use Rattle.ll1.proofs.Ends.{finds-word, finds-into, finds-out, finds-rule, finds-row, finds-low, finds-any, finds}
 use Rattle.ll1.proofs.Derived.{after-word, after-rule, by-rule, after-into, after-out, derived}
 use Rattle.ll1.proofs.Parsed.{parsedBy, parsed}
-use Rattle.reach_law.specs.Numbering.{Numbering}
 use Rattle.reach_law.specs.Search.{numberOf, nextNumber, meet, row, rows, find}
 use Rattle.reach_law.proofs.Room.{answered}
 use Rattle.file_law.specs.Answer.{listed}

@@ -20,3 +20,4 @@ pub mod Demands
 pub mod Areas
 pub mod Compiled
 pub mod Blink
+pub mod TurnedAway

@@ -1,0 +1,181 @@
+-- "Try these and watch the promise turn them away": each wrong compiler, and the idle stepper, breaks what is promised.
+-- Assumes nothing.
+use mathlib.Core.Path.{_≡_, sym, _∙_, ap, subst}
+use mathlib.Core.List.{List, [], _∷_, map}
+use Prim.Native.Nat.{ℕ, zero, suc, _*_, _/_, _≤_, _<_}
+use native.Mathlib.Decide.{decLt}
+use native.Mathlib.Omega.{arith}
+use lib.Dec.{eqb}
+use borrow.Author.Tests.{eqb-true}
+use lib.ListN.{length, getD, take, replicate, length-replicate, getD-replicate, length-take, List·getD-eq-default}
+use lib.Seq.{getD-take}
+use Rattle.reach_law.specs.Count.{Counted}
+use Rattle.reach_law.proofs.Unique.{one-count}
+use Rattle.file_law.specs.Answer.{Answer, gives, refuses}
+use Rattle.file_law.specs.Bytes.{bytesOf, word2}
+use Rattle.file_law.specs.Table.{mostStates, Table, Fits, Running, clocks, tableRun}
+use Rattle.file_law.specs.File.{streamOf, fileOf}
+use Rattle.file_law.specs.Reading.{Sizes, blockGood, openAnswer}
+use Rattle.file_law.specs.Stepping.{runAnswers, outputsCode}
+use Rattle.file_law.proofs.Every.{both-left, both-right}
+use Rattle.file_law.proofs.Tests.{blocks-small}
+use Rattle.file_law.proofs.Sound.{Sound, sound}
+use Rattle.file_law.proofs.Round.{accepted, no-shared-file, written-runs}
+use Rattle.meaning.specs.Declared.{Source}
+use Rattle.meaning.specs.Checked.{programOf}
+use Rattle.language.specs.Texts.{good, Reads}
+use Rattle.language.specs.Tables.{machineOf}
+use Rattle.language.specs.Promise.{workNeeded, Made, Lent, Ended, Ready, Compiles, made}
+use Rattle.language.proofs.OneTable.{one-file}
+use Rattle.language.proofs.OneAnswer.{one-answer}
+use Rattle.language.proofs.Fits.{no-fault, table-fits}
+use Rattle.language.proofs.Success.{fileIn, success-of, file-in}
+use Rattle.language.proofs.Demands.{opens, counts, not-given}
+use Rattle.language.proofs.Compiled.{Says}
+use Rattle.language.proofs.Blink.{blinkText, blink, blink-says, idleText, idle, idle-says}
+
+-- a compiler, and that it keeps the promise
+abbrev pub Compiler : Type 0
+Compiler = Lent → Ended
+
+abbrev pub Keeps : Compiler → Type 0
+Keeps f = (l : Lent) → Compiles l (f l)
+
+-- ---- where there is room for every file
+
+-- "The largest file is 67 blocks."
+abbrev most : ℕ
+most = 34304
+
+zeros : ℕ → List ℕ
+zeros n = replicate n 0
+
+length-zeros : (n : ℕ) → length (zeros n) ≡ n
+unfolding zeros
+length-zeros n = length-replicate n 0
+
+-- the front of zeros is zeros
+zero-at : (n k i : ℕ) → getD (take k (zeros n)) i 0 ≡ 0
+unfolding zeros
+zero-at n k i = go (decLt i k) (decLt i n)
+  where
+    go : Dec (i < k) → Dec (i < n) → getD (take k (zeros n)) i 0 ≡ 0
+    go (yes h) (yes g) = getD-take k (zeros n) i 0 h ∙ getD-replicate n i 0 0 g
+    go (yes h) (no g) = getD-take k (zeros n) i 0 h ∙ List·getD-eq-default (zeros n) 0 (omega (arith, length-zeros n))
+    go (no h) g = List·getD-eq-default (take k (zeros n)) 0 (omega (arith, length-take k (zeros n)))
+
+abbrev lent : List ℕ → Lent
+lent text = record { source = text; room = mostStates; work = zeros (workNeeded mostStates); buffer = zeros most }
+
+ready : (text : List ℕ) → Ready (lent text)
+ready text = record { room = record { some = omega arith; few = omega arith }; work = omega (arith, length-zeros (workNeeded mostStates)) }
+
+small : (t : Table) → Fits t → length (fileOf (streamOf t)) ≤ most
+small t fits =
+    let s = sound (fileOf (streamOf t)) _ (accepted t fits) in
+    omega (arith, s .shape .exact, blocks-small _ _ (s .shape .size .inputs) (s .shape .size .states))
+
+-- there, a promised end gives the file
+record GivesFile (t : Table) (e : Ended) : Type 0 where
+  what : Made
+  answer : e .answer ≡ gives what
+  count : what .states ≡ length (t .rows)
+  bytes : fileIn what e ≡ fileOf (streamOf t)
+
+says-fits : {text : List ℕ} {t : Table} → Says text t → Fits t
+says-fits y = table-fits (y .source) (no-fault (y .reads)) (y .file .numbers) (y .few) (y .tabled)
+
+gives-file : {text : List ℕ} {t : Table} {e : Ended} → Says text t → Compiles (lent text) e → GivesFile t e
+gives-file {text} {t} {e} y c =
+    let file = fileOf (streamOf t) in
+    let fit : length file ≤ length (zeros most) = omega (arith, small t (says-fits y), length-zeros most) in
+    let m : Made = record { states = length (y .states); blocks = length file / 512 } in
+    let given : e .answer ≡ gives m = ap (λ (x : Ended). x .answer) (one-answer c (made (ready text) (y .reads) (y .file) (y .few) fit)) in
+    let z = success-of c given (y .reads) in
+    record { what = m; answer = given; count = sym (y .tabled .size); bytes = file-in z ∙ one-file (z .filed) (y .file) .1 }
+
+-- ---- "a compiler that only refuses"
+
+pub only-refuses : (f : Compiler) → ((l : Lent) → (number : ℕ) × (place : ℕ) × (f l .answer ≡ refuses number place)) → ¬ Keeps f
+only-refuses f refusing keeps =
+    let g = gives-file blink-says (keeps (lent blinkText)) in
+    let (number, place, e) = refusing (lent blinkText) in
+    not-given (g .what) number place (sym (g .answer) ∙ e)
+
+-- ---- "or gives blink for all"
+
+-- one file for all, whichever it is
+pub one-for-all : (f : Compiler) (file : List ℕ) → ((l : Lent) (m : Made) → f l .answer ≡ gives m → fileIn m (f l) ≡ file) → ¬ Keeps f
+one-for-all f file same keeps =
+    let g = gives-file blink-says (keeps (lent blinkText)) in
+    let h = gives-file idle-says (keeps (lent idleText)) in
+    let shared : fileOf (streamOf blink) ≡ fileOf (streamOf idle) =
+    sym (g .bytes) ∙ same (lent blinkText) (g .what) (g .answer) ∙ sym (same (lent idleText) (h .what) (h .answer)) ∙ h .bytes in
+    omega (arith, ap (λ (t : Table). t .inputs) (no-shared-file blink idle (says-fits blink-says) (says-fits idle-says) shared))
+
+pub blink-for-all : (f : Compiler) → ((l : Lent) (m : Made) → f l .answer ≡ gives m → fileIn m (f l) ≡ fileOf (streamOf blink)) → ¬ Keeps f
+blink-for-all f = one-for-all f (fileOf (streamOf blink))
+
+-- ---- "one that writes nothing but says yes"
+
+-- a block of zeros has a total of no blocks
+zeros-refused : (f : List ℕ) (z : Sizes) → ((i : ℕ) → getD f i 0 ≡ 0) → ¬ (openAnswer f ≡ gives z)
+unfolding blockGood word2
+zeros-refused f z none e =
+    let s : Sound f z = sound f z e in
+    let b = s .blocks 0 (omega (arith, s .shape .long)) in
+    let total = eqb-true (word2 (bytesOf f) 2) (length f / 512) (both-left _ _ (both-right (eqb (word2 (bytesOf f) 0) 0) _ b)) in
+    omega (arith, total, none 2, none 3, s .shape .long)
+
+pub writes-nothing : (f : Compiler) → ((l : Lent) (m : Made) → f l .answer ≡ gives m → f l .buffer ≡ l .buffer) → ¬ Keeps f
+writes-nothing f same keeps =
+    let g = gives-file blink-says (keeps (lent blinkText)) in
+    let e : f (lent blinkText) .buffer ≡ zeros most = same (lent blinkText) (g .what) (g .answer) in
+    zeros-refused (fileIn (g .what) (f (lent blinkText))) _ (λ i. ap (λ (b : List ℕ). getD (take (512 * g .what .blocks) b) i 0) e ∙ zero-at most (512 * g .what .blocks) i) (opens (keeps (lent blinkText)) (g .answer) (blink-says .reads))
+
+-- ---- "a made-up or padded state count"
+
+-- the count is that of the reachable states, and no other
+pub wrong-count : (f : Compiler) → Keeps f → (l : Lent) (s : Source) (m : Made) (n : ℕ) → Reads (l .source) (good s) → Counted (machineOf (programOf s)) n → f l .answer ≡ gives m → m .states ≡ n
+wrong-count f keeps l s m n x c e = one-count (counts (keeps l) e x) c
+
+pub padded-count : (f : Compiler) → ((l : Lent) (s : Source) (m : Made) (n : ℕ) → Reads (l .source) (good s) → Counted (machineOf (programOf s)) n → f l .answer ≡ gives m → n < m .states) → ¬ Keeps f
+padded-count f padded keeps =
+    let g = gives-file blink-says (keeps (lent blinkText)) in
+    let c = counts (keeps (lent blinkText)) (g .answer) (blink-says .reads) in
+    omega (arith, padded (lent blinkText) (blink-says .source) (g .what) (g .what .states) (blink-says .reads) c (g .answer))
+
+-- one number for all
+pub made-up-count : (f : Compiler) (n : ℕ) → ((l : Lent) (m : Made) → f l .answer ≡ gives m → m .states ≡ n) → ¬ Keeps f
+made-up-count f n same keeps =
+    let g = gives-file blink-says (keeps (lent blinkText)) in
+    let h = gives-file idle-says (keeps (lent idleText)) in
+    omega (arith, g .count, h .count, same (lent blinkText) (g .what) (g .answer), same (lent idleText) (h .what) (h .answer))
+
+-- ---- "a stepper right on the first clock and idle later"
+
+-- what a stepper answers to a file, a record and inputs: opening, and each clock
+abbrev pub Stepper : Type 0
+Stepper = List ℕ → Running → List ℕ → List (Answer Running)
+
+abbrev at : List (Answer Running) → ℕ → Answer Running
+at answers clock = getD answers clock (refuses 0 0)
+
+-- its answer at the second clock is that of the first
+pub idle-later : (r : Stepper) → ((file : List ℕ) (c : Running) (x y : ℕ) → at (r file c (x ∷ y ∷ [])) 2 ≡ at (r file c (x ∷ y ∷ [])) 1)
+    → ¬ ((file : List ℕ) (c : Running) (w : List ℕ) → r file c w ≡ runAnswers file c w)
+unfolding clocks tableRun
+idle-later r same keeps =
+    let file = fileOf (streamOf blink) in
+    let w : List ℕ = 1 ∷ 1 ∷ [] in
+    let e : r file off w ≡ map gives (tableRun blink w) = keeps file off w ∙ written-runs blink (says-fits blink-says) off w on in
+    let idle : _≡_ {A = ℕ} 0 1 = ap outputsCode (subst (λ (l : List (Answer Running)). at l 2 ≡ at l 1) e (same file off 1 1)) in
+    omega arith
+  where
+    off : Running
+    off = record { state = 0; outputs = 0 }
+
+    on : (j : ℕ) → getD (1 ∷ 1 ∷ []) j 0 < 2
+    on zero = omega arith
+    on (suc zero) = omega arith
+    on (suc (suc j)) = omega arith
