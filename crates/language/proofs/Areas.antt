@@ -1,8 +1,8 @@
 -- What a compile leaves in the lent work area and file buffer.
 -- Assumes nothing.
-use mathlib.Core.Path.{_≡_, refl, ap}
+use mathlib.Core.Path.{_≡_, refl, sym, ap}
 use mathlib.Core.List.{List, [], _∷_}
-use mathlib.Core.Option.{Option, none, some}
+use mathlib.Core.Option.{Option, none, some, Option·none-ne-some, Option·some-injective}
 use Prim.Native.Nat.{ℕ, _*_, _/_, _≤_}
 use native.Mathlib.Omega.{arith}
 use lib.ListN.{length, drop, length-append, length-drop}
@@ -17,8 +17,8 @@ use Rattle.meaning.specs.Faults.{Fault, least, earliest, faultOf}
 use Rattle.language.specs.Grammar.{refuses as refusesWith, Checks, four, five}
 use Rattle.language.specs.Texts.{refused, Reads, long, text, tree}
 use Rattle.language.specs.Promise.{Made, Lent, Ended, allZero, Compiles, one, two, fault, eleven, twelve, made}
-use Rattle.language.proofs.Success.{success, past-file}
-use Rattle.language.proofs.Demands.{same-number, not-given}
+use Rattle.language.proofs.Success.{success, not-given, past-file}
+use Rattle.language.proofs.Demands.{same-number}
 
 -- ---- the numbers of a text's refusals
 
@@ -27,10 +27,9 @@ Told number = (3 ≤ number) × (number ≤ 10)
 
 told : (number : ℕ) → Told number → (places : List ℕ) (next : Option Fault) (f : Fault) → (next ≡ some f → Told (f .number)) → earliest number places next ≡ some f → Told (f .number)
 told number h [] next f k e = k e
-told number h (p ∷ ps) next f k e = let same : number ≡ f .number = ap (λ (g : Fault). g .number) (inside e) in (omega arith, omega arith)
-  where
-    inside : some (record { number = number; place = least p ps }) ≡ some f → record { number = number; place = least p ps } ≡ f
-    inside e = cc
+told number h (p ∷ ps) next f k e =
+    let same : number ≡ f .number = ap (λ (g : Fault). g .number) (Option·some-injective (record { number = number; place = least p ps }) f e) in
+    (omega arith, omega arith)
 
 tree-fault : (s : Source) (f : Fault) → faultOf s ≡ some f → Told (f .number)
 unfolding faultOf
@@ -43,11 +42,8 @@ tree-fault s f e =
     told 7 (omega arith, omega arith) (kindFaults s) jump f (
     told 8 (omega arith, omega arith) (jumpFaults s) size f (
     told 9 (omega arith, omega arith) (sizeFaults s) worst f (
-    told 10 (omega arith, omega arith) (worstFaults s) none f (λ x. absurd (nothing x))
+    told 10 (omega arith, omega arith) (worstFaults s) none f (λ x. absurd (Option·none-ne-some f x))
     )))) e
-  where
-    nothing : none ≡ some f → ⊥
-    nothing x = let z : _≡_ {A = ℕ} 0 1 = cc in omega arith
 
 text-fault : {s : List ℕ} {number place : ℕ} → Checks s (refusesWith number place) → Told number
 text-fault (four x) = (omega arith, omega arith)
@@ -68,7 +64,7 @@ buffer-stays (two r h) p = refl
 buffer-stays (fault r x) p = refl
 buffer-stays (eleven r x t) p = refl
 buffer-stays (twelve r x f n h) p = refl
-buffer-stays {number = number} {place = place} (made {states = states} {file = file} r x f n h) p = not-given (record { states = length states; blocks = length file / 512 }) number place p
+buffer-stays {number = number} {place = place} (made {states = states} {file = file} r x f n h) p = not-given (record { states = length states; blocks = length file / 512 }) number place (sym p)
 
 -- "bytes past the file stay"
 pub past-stays : {l : Lent} {e : Ended} {m : Made} → Compiles l e → e .answer ≡ gives m → drop (512 * m .blocks) (e .buffer) ≡ drop (512 * m .blocks) (l .buffer)
@@ -92,7 +88,7 @@ work-left k (two r h) p = refl
 work-left {number = number} {place = place} k (fault {number = n} {place = q} r x) p = absurd (omega (arith, fault-number x, same-number n q number place p))
 work-left {number = number} {place = place} k (eleven r x t) p = absurd (omega (arith, same-number 11 0 number place p))
 work-left {number = number} {place = place} k (twelve r x f n h) p = absurd (omega (arith, same-number 12 0 number place p))
-work-left {number = number} {place = place} k (made {states = states} {file = file} r x f n h) p = not-given (record { states = length states; blocks = length file / 512 }) number place p
+work-left {number = number} {place = place} k (made {states = states} {file = file} r x f n h) p = not-given (record { states = length states; blocks = length file / 512 }) number place (sym p)
 
 -- "every other end of a compile leaves it all zero"
 pub work-ends : {l : Lent} {e : Ended} → Compiles l e → ¬ (e .answer ≡ refuses 1 0) → ¬ (e .answer ≡ refuses 2 0) → e .work ≡ allZero (l .work)

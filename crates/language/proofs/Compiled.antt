@@ -2,10 +2,9 @@
 -- Assumes nothing.
 use mathlib.Core.Path.{_≡_, refl, sym, _∙_, subst}
 use mathlib.Core.List.{List}
-use mathlib.Core.Option.{Option, none, some}
+use mathlib.Core.Option.{Option, none, some, Option·none-ne-some, Option·some-injective}
 use Prim.Native.Nat.{ℕ, _≤_}
 use Prim.Native.String.{String}
-use native.Mathlib.Omega.{arith}
 use lib.ListN.{length}
 use Rattle.ll1.specs.Values.{make, front, back, nothing, valuesOf}
 use Rattle.ll1.proofs.Tests.{has, beginRow, pick}
@@ -77,23 +76,15 @@ pub record Says (text : List ℕ) (t : Table) : Type 0 where
   pub tabled : Tabled (programOf source) states t
 
 found : (text : List ℕ) (t : Table) (r : Reading) → Reads text r → tableBy r ≡ some t → Says text t
-found text t (refused number place) x e = absurd (nothing e)
-  where
-    nothing : none ≡ some t → ⊥
-    nothing e = let z : _≡_ {A = ℕ} 0 1 = cc in omega arith
+found text t (refused number place) x e = absurd (Option·none-ne-some t e)
 found text t (good s) x e = go (find sameState (machineOf (programOf s)) mostStates) refl e
   where
-    same : (u : Table) → some u ≡ some t → u ≡ t
-    same u e = cc
-
-    nothing : none ≡ some t → ⊥
-    nothing e = let z : _≡_ {A = ℕ} 0 1 = cc in omega arith
-
     go : (o : Option (List State)) → find sameState (machineOf (programOf s)) mostStates ≡ o → tableFrom s o ≡ some t → Says text t
-    go none f e = absurd (nothing e)
+    go none f e = absurd (Option·none-ne-some t e)
     go (some L) f e =
         let (u, h) = answered sameState (machineOf (programOf s)) mostStates (some L) .1 f in
-        let right : Tabled (programOf s) L t = subst (Tabled (programOf s) L) (same (tableOf (programOf s) L) e) (table-right (programOf s) L u) in
+        let same : tableOf (programOf s) L ≡ t = Option·some-injective (tableOf (programOf s) L) t e in
+        let right : Tabled (programOf s) L t = subst (Tabled (programOf s) L) same (table-right (programOf s) L u) in
         record { source = s; reads = x; states = L; file = record { table = t; numbers = u; tabled = right; bytes = refl }; few = h; tabled = right }
 
 same-compiled : (text : String) → compiled text ≡ tableBy (readingOf (bytes text))

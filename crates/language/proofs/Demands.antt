@@ -27,7 +27,7 @@ use Rattle.language.specs.Tables.{machineOf, Tabled}
 use Rattle.language.specs.Promise.{Made, Lent, Ended, Ready, FileOf, Compiles, one, two, fault, eleven, twelve, made}
 use Rattle.language.proofs.OneTable.{one-file}
 use Rattle.language.proofs.OneAnswer.{not-one, not-two, not-refused, one-source, one-answer}
-use Rattle.language.proofs.Success.{fileIn, Success, success, success-of, whole-blocks, file-in, fits}
+use Rattle.language.proofs.Success.{fileIn, Success, success, success-of, not-given, whole-blocks, file-in, fits}
 
 -- ---- the file opens, and runs as the program
 
@@ -139,9 +139,6 @@ more-room {l} {k} {e} {f} {m} c p same h r b d =
 pub same-number : (number place number₁ place₁ : ℕ) → _≡_ {A = Answer Made} (refuses number place) (refuses number₁ place₁) → number ≡ number₁
 same-number number place number₁ place₁ p = cc
 
-pub not-given : {A : Type 0} (m : Made) (number place : ℕ) → gives m ≡ refuses number place → A
-not-given m number place p = let z : _≡_ {A = ℕ} 0 1 = cc in absurd (omega arith)
-
 -- "11 | reachable states above the room": exactly then
 pub refused-states : {l : Lent} {e : Ended} {s : Source} → Ready l → Reads (l .source) (good s) → Compiles l e → (e .answer ≡ refuses 11 0) ↔ TooMany (machineOf (programOf s)) (l .room)
 refused-states {l} {e} {s} r x c = (over c, λ t. ap (λ (a : Ended). a .answer) (one-answer c (eleven r x t)))
@@ -152,7 +149,7 @@ refused-states {l} {e} {s} r x c = (over c, λ t. ap (λ (a : Ended). a .answer)
     over (fault q y) p = not-refused x y
     over (eleven q y t) p = subst (λ (v : Source). TooMany (machineOf (programOf v)) (l .room)) (one-source y x) t
     over (twelve q y f n h) p = absurd (omega (arith, same-number 12 0 11 0 p))
-    over (made {states = states} {file = file} q y f n h) p = not-given (record { states = length states; blocks = length file / 512 }) 11 0 p
+    over (made {states = states} {file = file} q y f n h) p = not-given (record { states = length states; blocks = length file / 512 }) 11 0 (sym p)
 
 -- .. that is, when the count is above the room
 pub refused-count : {l : Lent} {e : Ended} {s : Source} {n : ℕ} → Ready l → Reads (l .source) (good s) → Counted (machineOf (programOf s)) n → Compiles l e → (e .answer ≡ refuses 11 0) ↔ (l .room < n)

@@ -2,7 +2,7 @@
 -- Assumes nothing.
 use mathlib.Core.Path.{_≡_, refl, sym, _∙_, ap, ap₂}
 use mathlib.Core.List.{List, [], _∷_, append-eq-nil-iff}
-use mathlib.Core.Option.{Option, none, some}
+use mathlib.Core.Option.{Option, none, Option·some-ne-none}
 use Prim.Native.Nat.{ℕ, _+_, _^_, _≤_, _<_}
 use native.Mathlib.Nat.{mod-lt}
 use native.Mathlib.Omega.{arith}
@@ -17,7 +17,7 @@ use Rattle.meaning.specs.Kinds.{kindFaults}
 use Rattle.meaning.specs.Jumps.{jumpFaults}
 use Rattle.meaning.specs.Sizes.{inputPlaces, outputPlaces, sizeFaults}
 use Rattle.meaning.specs.Worst.{worstFaults}
-use Rattle.meaning.specs.Faults.{Fault, earliest, faultOf}
+use Rattle.meaning.specs.Faults.{Fault, least, earliest, faultOf}
 use Rattle.meaning.specs.Checked.{programOf}
 use Rattle.language.specs.Texts.{good, Reads, fine}
 use Rattle.language.specs.Tables.{machineOf, Tabled}
@@ -29,7 +29,7 @@ no-fault (fine h x d e) = e
 
 none-told : (number : ℕ) (places : List ℕ) (next : Option Fault) → earliest number places next ≡ none → (places ≡ []) × (next ≡ none)
 none-told number [] next e = (refl, e)
-none-told number (p ∷ ps) next e = let z : _≡_ {A = ℕ} 0 1 = cc in absurd (omega arith)
+none-told number (p ∷ ps) next e = absurd (Option·some-ne-none (record { number = number; place = least p ps }) e)
 
 no-size-fault : (s : Source) → faultOf s ≡ none → sizeFaults s ≡ []
 unfolding faultOf

@@ -36,7 +36,8 @@ pub record Success (l : Lent) (e : Ended) (m : Made) (s : Source) : Type 0 where
 same-made : (m n : Made) → gives m ≡ gives n → m ≡ n
 same-made m n p = cc
 
-not-given : {A : Type 0} (m : Made) (number place : ℕ) → refuses number place ≡ gives m → A
+-- a refusal gives nothing
+pub not-given : {A : Type 0} (m : Made) (number place : ℕ) → refuses number place ≡ gives m → A
 not-given m number place p = let z : _≡_ {A = ℕ} 0 1 = cc in absurd (omega arith)
 
 pub success : {l : Lent} {e : Ended} {m : Made} → Compiles l e → e .answer ≡ gives m → (s : Source) × Success l e m s

@@ -2,7 +2,7 @@
 -- Assumes nothing.
 use mathlib.Core.Path.{_≡_, sym, _∙_, ap, subst}
 use mathlib.Core.List.{List, [], _∷_, map}
-use Prim.Native.Nat.{ℕ, zero, suc, _*_, _/_, _≤_, _<_}
+use Prim.Native.Nat.{ℕ, zero, suc, _+_, _*_, _/_, _≤_, _<_}
 use native.Mathlib.Decide.{decLt}
 use native.Mathlib.Omega.{arith}
 use lib.Dec.{eqb}
@@ -27,10 +27,10 @@ use Rattle.language.specs.Texts.{good, Reads}
 use Rattle.language.specs.Tables.{machineOf}
 use Rattle.language.specs.Promise.{workNeeded, Made, Lent, Ended, Ready, Compiles, made}
 use Rattle.language.proofs.OneTable.{one-file}
-use Rattle.language.proofs.OneAnswer.{one-answer}
+use Rattle.language.proofs.OneAnswer.{one-answer, some-answer}
 use Rattle.language.proofs.Fits.{no-fault, table-fits}
-use Rattle.language.proofs.Success.{fileIn, success-of, file-in}
-use Rattle.language.proofs.Demands.{opens, counts, not-given}
+use Rattle.language.proofs.Success.{fileIn, success-of, not-given, file-in}
+use Rattle.language.proofs.Demands.{opens, counts}
 use Rattle.language.proofs.Compiled.{Says}
 use Rattle.language.proofs.Blink.{blinkText, blink, blink-says, idleText, idle, idle-says}
 
@@ -40,6 +40,10 @@ Compiler = Lent → Ended
 
 abbrev pub Keeps : Compiler → Type 0
 Keeps f = (l : Lent) → Compiles l (f l)
+
+-- there is one, so that it is these that are turned away
+pub some-compiler : (f : Compiler) × Keeps f
+some-compiler = (λ l. some-answer l .0, λ l. some-answer l .1)
 
 -- ---- where there is room for every file
 
@@ -100,7 +104,7 @@ pub only-refuses : (f : Compiler) → ((l : Lent) → (number : ℕ) × (place :
 only-refuses f refusing keeps =
     let g = gives-file blink-says (keeps (lent blinkText)) in
     let (number, place, e) = refusing (lent blinkText) in
-    not-given (g .what) number place (sym (g .answer) ∙ e)
+    not-given (g .what) number place (sym e ∙ g .answer)
 
 -- ---- "or gives blink for all"
 
@@ -135,19 +139,16 @@ writes-nothing f same keeps =
 
 -- ---- "a made-up or padded state count"
 
--- the count is that of the reachable states, and no other
-pub wrong-count : (f : Compiler) → Keeps f → (l : Lent) (s : Source) (m : Made) (n : ℕ) → Reads (l .source) (good s) → Counted (machineOf (programOf s)) n → f l .answer ≡ gives m → m .states ≡ n
-wrong-count f keeps l s m n x c e = one-count (counts (keeps l) e x) c
+-- at one program is enough: the count is that of the reachable states, and no other
+pub made-up-count : (f : Compiler) (l : Lent) (s : Source) (m : Made) (n : ℕ) → Reads (l .source) (good s) → Counted (machineOf (programOf s)) n → f l .answer ≡ gives m → ¬ (m .states ≡ n) → ¬ Keeps f
+made-up-count f l s m n x c e other keeps = other (one-count (counts (keeps l) e x) c)
 
-pub padded-count : (f : Compiler) → ((l : Lent) (s : Source) (m : Made) (n : ℕ) → Reads (l .source) (good s) → Counted (machineOf (programOf s)) n → f l .answer ≡ gives m → n < m .states) → ¬ Keeps f
-padded-count f padded keeps =
-    let g = gives-file blink-says (keeps (lent blinkText)) in
-    let c = counts (keeps (lent blinkText)) (g .answer) (blink-says .reads) in
-    omega (arith, padded (lent blinkText) (blink-says .source) (g .what) (g .what .states) (blink-says .reads) c (g .answer))
+pub padded-count : (f : Compiler) (l : Lent) (s : Source) (m : Made) (n more : ℕ) → Reads (l .source) (good s) → Counted (machineOf (programOf s)) n → f l .answer ≡ gives m → m .states ≡ n + suc more → ¬ Keeps f
+padded-count f l s m n more x c e padded = made-up-count f l s m n x c e (λ same. omega arith)
 
--- one number for all
-pub made-up-count : (f : Compiler) (n : ℕ) → ((l : Lent) (m : Made) → f l .answer ≡ gives m → m .states ≡ n) → ¬ Keeps f
-made-up-count f n same keeps =
+-- one count for all, whichever it is
+pub one-count-for-all : (f : Compiler) (n : ℕ) → ((l : Lent) (m : Made) → f l .answer ≡ gives m → m .states ≡ n) → ¬ Keeps f
+one-count-for-all f n same keeps =
     let g = gives-file blink-says (keeps (lent blinkText)) in
     let h = gives-file idle-says (keeps (lent idleText)) in
     omega (arith, g .count, h .count, same (lent blinkText) (g .what) (g .answer), same (lent idleText) (h .what) (h .answer))
