@@ -3,7 +3,7 @@
 use mathlib.Core.Path.{_≡_, refl, sym, ap}
 use mathlib.Core.List.{List, [], _∷_}
 use mathlib.Core.Option.{Option, none, some, Option·none-ne-some, Option·some-injective}
-use Prim.Native.Nat.{ℕ, _*_, _/_, _≤_}
+use Prim.Native.Nat.{ℕ, _*_, _≤_}
 use native.Mathlib.Omega.{arith}
 use lib.ListN.{length, drop, length-append, length-drop}
 use Rattle.file_law.specs.Answer.{gives, refuses}
@@ -17,6 +17,7 @@ use Rattle.meaning.specs.Faults.{Fault, least, earliest, faultOf}
 use Rattle.language.specs.Grammar.{refuses as refusesWith, Checks, four, five}
 use Rattle.language.specs.Texts.{refused, Reads, long, text, tree}
 use Rattle.language.specs.Promise.{Made, Lent, Ended, allZero, Compiles, one, two, fault, eleven, twelve, made}
+use Rattle.language.proofs.OneAnswer.{madeOf}
 use Rattle.language.proofs.Success.{success, not-given, past-file}
 use Rattle.language.proofs.Demands.{same-number}
 
@@ -64,7 +65,7 @@ buffer-stays (two r h) p = refl
 buffer-stays (fault r x) p = refl
 buffer-stays (eleven r x t) p = refl
 buffer-stays (twelve r x f n h) p = refl
-buffer-stays {number = number} {place = place} (made {states = states} {file = file} r x f n h) p = not-given (record { states = length states; blocks = length file / 512 }) number place (sym p)
+buffer-stays {number = number} {place = place} (made {states = states} {file = file} r x f n h) p = not-given (madeOf states file) number place (sym p)
 
 -- "bytes past the file stay"
 pub past-stays : {l : Lent} {e : Ended} {m : Made} → Compiles l e → e .answer ≡ gives m → drop (512 * m .blocks) (e .buffer) ≡ drop (512 * m .blocks) (l .buffer)
@@ -88,7 +89,7 @@ work-left k (two r h) p = refl
 work-left {number = number} {place = place} k (fault {number = n} {place = q} r x) p = absurd (omega (arith, fault-number x, same-number n q number place p))
 work-left {number = number} {place = place} k (eleven r x t) p = absurd (omega (arith, same-number 11 0 number place p))
 work-left {number = number} {place = place} k (twelve r x f n h) p = absurd (omega (arith, same-number 12 0 number place p))
-work-left {number = number} {place = place} k (made {states = states} {file = file} r x f n h) p = not-given (record { states = length states; blocks = length file / 512 }) number place (sym p)
+work-left {number = number} {place = place} k (made {states = states} {file = file} r x f n h) p = not-given (madeOf states file) number place (sym p)
 
 -- "every other end of a compile leaves it all zero"
 pub work-ends : {l : Lent} {e : Ended} → Compiles l e → ¬ (e .answer ≡ refuses 1 0) → ¬ (e .answer ≡ refuses 2 0) → e .work ≡ allZero (l .work)

@@ -3,7 +3,7 @@
 use mathlib.Core.Path.{_≡_, refl, sym, _∙_, ap, ap₂, subst}
 use mathlib.Core.Logic.{_↔_}
 use mathlib.Core.List.{List, [], _∷_, map}
-use Prim.Native.Nat.{ℕ, zero, suc, _*_, _/_, _^_, _≤_, _<_}
+use Prim.Native.Nat.{ℕ, zero, suc, _*_, _^_, _≤_, _<_}
 use native.Mathlib.Omega.{arith}
 use lib.ListN.{length, getD}
 use lib.Pow.{pow-pos}
@@ -26,7 +26,7 @@ use Rattle.language.specs.Texts.{good, refused, Reads}
 use Rattle.language.specs.Tables.{machineOf, Tabled}
 use Rattle.language.specs.Promise.{Made, Lent, Ended, Ready, FileOf, Compiles, one, two, fault, eleven, twelve, made}
 use Rattle.language.proofs.OneTable.{one-file}
-use Rattle.language.proofs.OneAnswer.{not-one, not-two, not-refused, one-source, one-answer}
+use Rattle.language.proofs.OneAnswer.{not-one, not-two, not-refused, one-source, madeOf, one-answer}
 use Rattle.language.proofs.Success.{fileIn, Success, success, success-of, not-given, whole-blocks, file-in, fits}
 
 -- ---- the file opens, and runs as the program
@@ -111,7 +111,7 @@ same-success {s = s} {v = v} y z p =
       bytes = z .filed .bytes;
     } in
     let same = one-file (y .filed) filed in
-    (sym (y .gave) ∙ ap₂ (λ (states : List State) (file : List ℕ). let m : Made = record { states = length states; blocks = length file / 512 } in m) (same .0) (same .1) ∙ z .gave, file-in y ∙ same .1 ∙ sym (file-in z))
+    (sym (y .gave) ∙ ap₂ madeOf (same .0) (same .1) ∙ z .gave, file-in y ∙ same .1 ∙ sym (file-in z))
 
 -- whatever the rooms, work areas and buffers, and whatever else the texts differ in
 pub bytes-fixed : {l k : Lent} {e f : Ended} {m n : Made} {s v : Source} → Compiles l e → e .answer ≡ gives m → Reads (l .source) (good s) → Compiles k f → f .answer ≡ gives n → Reads (k .source) (good v)
@@ -149,7 +149,7 @@ refused-states {l} {e} {s} r x c = (over c, λ t. ap (λ (a : Ended). a .answer)
     over (fault q y) p = not-refused x y
     over (eleven q y t) p = subst (λ (v : Source). TooMany (machineOf (programOf v)) (l .room)) (one-source y x) t
     over (twelve q y f n h) p = absurd (omega (arith, same-number 12 0 11 0 p))
-    over (made {states = states} {file = file} q y f n h) p = not-given (record { states = length states; blocks = length file / 512 }) 11 0 (sym p)
+    over (made {states = states} {file = file} q y f n h) p = not-given (madeOf states file) 11 0 (sym p)
 
 -- .. that is, when the count is above the room
 pub refused-count : {l : Lent} {e : Ended} {s : Source} {n : ℕ} → Ready l → Reads (l .source) (good s) → Counted (machineOf (programOf s)) n → Compiles l e → (e .answer ≡ refuses 11 0) ↔ (l .room < n)

@@ -19,7 +19,7 @@ use Rattle.meaning.specs.Checked.{programOf}
 use Rattle.meaning.proofs.Equal.{sameState}
 use Rattle.language.specs.Texts.{Reading, good, refused, Reads}
 use Rattle.language.specs.Tables.{machineOf}
-use Rattle.language.specs.Promise.{RoomFits, workNeeded, Lent, Ended, Ready, allZero, FileOf, refusal, Compiles, one, two, fault, eleven, twelve, made}
+use Rattle.language.specs.Promise.{RoomFits, workNeeded, Made, Lent, Ended, Ready, allZero, FileOf, refusal, Compiles, one, two, fault, eleven, twelve, made}
 use Rattle.language.proofs.Readings.{readingOf, reading-right, one-reads}
 use Rattle.language.proofs.OneTable.{one-file, some-file}
 
@@ -68,8 +68,12 @@ not-one (inr h) r = absurd (omega arith)
 pub not-two : {A : Type 0} {l : Lent} → length (l .work) < workNeeded (l .room) → Ready l → A
 not-two h r = absurd (omega arith)
 
+-- the counts that a success tells
+abbrev pub madeOf : List State → List ℕ → Made
+madeOf states file = record { states = length states; blocks = length file / 512 }
+
 abbrev makes : Lent → List State → List ℕ → Ended
-makes l states file = record { answer = gives (record { states = length states; blocks = length file / 512 }); work = allZero (l .work); buffer = file ++ drop (length file) (l .buffer) }
+makes l states file = record { answer = gives (madeOf states file); work = allZero (l .work); buffer = file ++ drop (length file) (l .buffer) }
 
 pub one-answer : {l : Lent} {a b : Ended} → Compiles l a → Compiles l b → a ≡ b
 one-answer (one h) (one k) = refl

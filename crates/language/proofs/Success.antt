@@ -2,7 +2,7 @@
 -- Assumes nothing.
 use mathlib.Core.Path.{_≡_, refl, _∙_, ap, subst}
 use mathlib.Core.List.{List, _++_}
-use Prim.Native.Nat.{ℕ, _*_, _/_, _≤_}
+use Prim.Native.Nat.{ℕ, _*_, _≤_}
 use native.Mathlib.Omega.{arith}
 use lib.ListN.{length, take, drop}
 use lib.Seq.{take-at, drop-at}
@@ -13,8 +13,8 @@ use Rattle.file_law.proofs.Written.{length-file}
 use Rattle.meaning.specs.States.{State}
 use Rattle.meaning.specs.Declared.{Source}
 use Rattle.language.specs.Texts.{good, Reads}
-use Rattle.language.specs.Promise.{Made, Lent, Ended, Ready, allZero, FileOf, Compiles, one, two, fault, eleven, twelve, made}
-use Rattle.language.proofs.OneAnswer.{one-source}
+use Rattle.language.specs.Promise.{Made, Lent, Ended, Ready, FileOf, Compiles, one, two, fault, eleven, twelve, made}
+use Rattle.language.proofs.OneAnswer.{one-source, madeOf}
 use Rattle.language.proofs.Fits.{no-fault, table-fits}
 
 -- the bytes of the file that a compile has made: so many blocks, from the buffer's first byte on
@@ -29,8 +29,7 @@ pub record Success (l : Lent) (e : Ended) (m : Made) (s : Source) : Type 0 where
   pub filed : FileOf s states file
   pub room : length states ≤ l .room
   pub space : length file ≤ length (l .buffer)
-  pub gave : record { states = length states; blocks = length file / 512 } ≡ m
-  pub work : e .work ≡ allZero (l .work)
+  pub gave : madeOf states file ≡ m
   pub buffer : e .buffer ≡ file ++ drop (length file) (l .buffer)
 
 same-made : (m n : Made) → gives m ≡ gives n → m ≡ n
@@ -47,7 +46,7 @@ success {m = m} (fault {number = number} {place = place} r x) p = not-given m nu
 success {m = m} (eleven r x t) p = not-given m 11 0 p
 success {m = m} (twelve r x f n h) p = not-given m 12 0 p
 success {m = m} (made {s = s} {states = states} {file = file} r x f n h) p =
-    (s, record { ready = r; reads = x; states = states; file = file; filed = f; room = n; space = h; gave = same-made (record { states = length states; blocks = length file / 512 }) m p; work = refl; buffer = refl })
+    (s, record { ready = r; reads = x; states = states; file = file; filed = f; room = n; space = h; gave = same-made (madeOf states file) m p; buffer = refl })
 
 -- .. of the source that the text says
 pub success-of : {l : Lent} {e : Ended} {m : Made} {s : Source} → Compiles l e → e .answer ≡ gives m → Reads (l .source) (good s) → Success l e m s

@@ -15,7 +15,7 @@ use Rattle.file_law.specs.Answer.{Answer, gives, refuses}
 use Rattle.file_law.specs.Bytes.{bytesOf, word2}
 use Rattle.file_law.specs.Table.{mostStates, Table, Fits, Running, clocks, tableRun}
 use Rattle.file_law.specs.File.{streamOf, fileOf}
-use Rattle.file_law.specs.Reading.{Sizes, blockGood, openAnswer}
+use Rattle.file_law.specs.Reading.{mostBlocks, Sizes, blockGood, openAnswer}
 use Rattle.file_law.specs.Stepping.{runAnswers, outputsCode}
 use Rattle.file_law.proofs.Every.{both-left, both-right}
 use Rattle.file_law.proofs.Tests.{blocks-small}
@@ -27,7 +27,7 @@ use Rattle.language.specs.Texts.{good, Reads}
 use Rattle.language.specs.Tables.{machineOf}
 use Rattle.language.specs.Promise.{workNeeded, Made, Lent, Ended, Ready, Compiles, made}
 use Rattle.language.proofs.OneTable.{one-file}
-use Rattle.language.proofs.OneAnswer.{one-answer, some-answer}
+use Rattle.language.proofs.OneAnswer.{madeOf, one-answer, some-answer}
 use Rattle.language.proofs.Fits.{no-fault, table-fits}
 use Rattle.language.proofs.Success.{fileIn, success-of, not-given, file-in}
 use Rattle.language.proofs.Demands.{opens, counts}
@@ -49,7 +49,7 @@ some-compiler = (λ l. some-answer l .0, λ l. some-answer l .1)
 
 -- "The largest file is 67 blocks."
 abbrev most : ℕ
-most = 34304
+most = 512 * mostBlocks
 
 zeros : ℕ → List ℕ
 zeros n = replicate n 0
@@ -93,10 +93,9 @@ gives-file : {text : List ℕ} {t : Table} {e : Ended} → Says text t → Compi
 gives-file {text} {t} {e} y c =
     let file = fileOf (streamOf t) in
     let fit : length file ≤ length (zeros most) = omega (arith, small t (says-fits y), length-zeros most) in
-    let m : Made = record { states = length (y .states); blocks = length file / 512 } in
-    let given : e .answer ≡ gives m = ap (λ (x : Ended). x .answer) (one-answer c (made (ready text) (y .reads) (y .file) (y .few) fit)) in
+    let given : e .answer ≡ gives (madeOf (y .states) file) = ap (λ (x : Ended). x .answer) (one-answer c (made (ready text) (y .reads) (y .file) (y .few) fit)) in
     let z = success-of c given (y .reads) in
-    record { what = m; answer = given; count = sym (y .tabled .size); bytes = file-in z ∙ one-file (z .filed) (y .file) .1 }
+    record { what = madeOf (y .states) file; answer = given; count = sym (y .tabled .size); bytes = file-in z ∙ one-file (z .filed) (y .file) .1 }
 
 -- ---- "a compiler that only refuses"
 
