@@ -17,8 +17,7 @@ use Rattle.meaning.specs.Faults.{Fault, least, earliest, faultOf}
 use Rattle.language.specs.Grammar.{refuses as refusesWith, Checks, four, five}
 use Rattle.language.specs.Texts.{refused, Reads, long, text, tree}
 use Rattle.language.specs.Promise.{Made, Lent, Ended, allZero, Compiles, one, two, fault, eleven, twelve, made}
-use Rattle.language.proofs.OneAnswer.{madeOf}
-use Rattle.language.proofs.Success.{success, not-given, past-file}
+use Rattle.language.proofs.Success.{madeOf, success, not-given, past-file}
 use Rattle.language.proofs.Demands.{same-number}
 
 -- ---- the numbers of a text's refusals

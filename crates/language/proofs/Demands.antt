@@ -26,8 +26,8 @@ use Rattle.language.specs.Texts.{good, refused, Reads}
 use Rattle.language.specs.Tables.{machineOf, Tabled}
 use Rattle.language.specs.Promise.{Made, Lent, Ended, Ready, FileOf, Compiles, one, two, fault, eleven, twelve, made}
 use Rattle.language.proofs.OneTable.{one-file}
-use Rattle.language.proofs.OneAnswer.{not-one, not-two, not-refused, one-source, madeOf, one-answer}
-use Rattle.language.proofs.Success.{fileIn, Success, success, success-of, not-given, whole-blocks, file-in, fits}
+use Rattle.language.proofs.OneAnswer.{not-one, not-two, not-refused, one-source, one-answer}
+use Rattle.language.proofs.Success.{fileIn, madeOf, Success, success, success-of, not-given, whole-blocks, file-in, fits}
 
 -- ---- the file opens, and runs as the program
 

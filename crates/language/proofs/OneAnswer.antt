@@ -2,16 +2,15 @@
 -- Assumes nothing.
 use mathlib.Core.Path.{_≡_, refl, sym, ap, ap₂, subst}
 use mathlib.Core.Logic.{_⊎_, inl, inr}
-use mathlib.Core.List.{List, _++_}
-use Prim.Native.Nat.{ℕ, _/_, _≤_, _<_}
+use mathlib.Core.List.{List}
+use Prim.Native.Nat.{ℕ, _≤_, _<_}
 use native.Mathlib.Decide.{decLt}
 use native.Mathlib.Omega.{arith}
-use lib.ListN.{length, drop}
+use lib.ListN.{length}
 use Rattle.reach_law.specs.Count.{TooMany}
 use Rattle.reach_law.specs.Numbering.{Numbering}
 use Rattle.reach_law.proofs.Unique.{not-both}
 use Rattle.reach_law.proofs.Room.{decided}
-use Rattle.file_law.specs.Answer.{gives}
 use Rattle.file_law.specs.Table.{mostStates}
 use Rattle.meaning.specs.States.{State}
 use Rattle.meaning.specs.Declared.{Source}
@@ -19,7 +18,7 @@ use Rattle.meaning.specs.Checked.{programOf}
 use Rattle.meaning.proofs.Equal.{sameState}
 use Rattle.language.specs.Texts.{Reading, good, refused, Reads}
 use Rattle.language.specs.Tables.{machineOf}
-use Rattle.language.specs.Promise.{RoomFits, workNeeded, Made, Lent, Ended, Ready, allZero, FileOf, refusal, Compiles, one, two, fault, eleven, twelve, made}
+use Rattle.language.specs.Promise.{RoomFits, workNeeded, Lent, Ended, Ready, allZero, FileOf, refusal, Compiles, one, two, fault, eleven, twelve, made}
 use Rattle.language.proofs.Readings.{readingOf, reading-right, one-reads}
 use Rattle.language.proofs.OneTable.{one-file, some-file}
 
@@ -68,13 +67,6 @@ not-one (inr h) r = absurd (omega arith)
 pub not-two : {A : Type 0} {l : Lent} → length (l .work) < workNeeded (l .room) → Ready l → A
 not-two h r = absurd (omega arith)
 
--- the counts that a success tells
-abbrev pub madeOf : List State → List ℕ → Made
-madeOf states file = record { states = length states; blocks = length file / 512 }
-
-abbrev makes : Lent → List State → List ℕ → Ended
-makes l states file = record { answer = gives (madeOf states file); work = allZero (l .work); buffer = file ++ drop (length file) (l .buffer) }
-
 pub one-answer : {l : Lent} {a b : Ended} → Compiles l a → Compiles l b → a ≡ b
 one-answer (one h) (one k) = refl
 one-answer (one h) (two r k) = not-one h r
@@ -111,7 +103,7 @@ one-answer (made q x f n h) (two r k) = not-two k q
 one-answer (made q x f n h) (fault r y) = not-refused x y
 one-answer (made q x f n h) (eleven r y t) = not-over y t x f n
 one-answer (made q x f n h) (twelve r y g m k) = not-short y g k x f h
-one-answer {l} (made q x f n h) (made r y g m k) = let e = one-file-of x f y g in ap₂ (makes l) (e .0) (e .1)
+one-answer (made q x f n h) (made r y g m k) = let (states, file) = one-file-of x f y g in rw (states, file)
 
 -- ---- there is one
 
@@ -121,7 +113,7 @@ some-answer l = least (decLt (l .room) 1)
     filed : Ready l → (s : Source) → Reads (l .source) (good s) → (states : List State) → length states ≤ l .room → (file : List ℕ) → FileOf s states file → Dec (length (l .buffer) < length file)
         → (e : Ended) × Compiles l e
     filed r s x states n file f (yes h) = (refusal l (allZero (l .work)) 12 0, twelve r x f n h)
-    filed r s x states n file f (no h) = (makes l states file, made r x f n (omega arith))
+    filed r s x states n file f (no h) = (_, made r x f n (omega arith))
 
     counted : Ready l → (s : Source) → Reads (l .source) (good s) → ((states : List State) × Numbering (machineOf (programOf s)) states × (length states ≤ l .room)) ⊎ TooMany (machineOf (programOf s)) (l .room)
         → (e : Ended) × Compiles l e

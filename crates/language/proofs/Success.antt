@@ -2,7 +2,7 @@
 -- Assumes nothing.
 use mathlib.Core.Path.{_≡_, refl, _∙_, ap, subst}
 use mathlib.Core.List.{List, _++_}
-use Prim.Native.Nat.{ℕ, _*_, _≤_}
+use Prim.Native.Nat.{ℕ, _*_, _/_, _≤_}
 use native.Mathlib.Omega.{arith}
 use lib.ListN.{length, take, drop}
 use lib.Seq.{take-at, drop-at}
@@ -14,12 +14,16 @@ use Rattle.meaning.specs.States.{State}
 use Rattle.meaning.specs.Declared.{Source}
 use Rattle.language.specs.Texts.{good, Reads}
 use Rattle.language.specs.Promise.{Made, Lent, Ended, Ready, FileOf, Compiles, one, two, fault, eleven, twelve, made}
-use Rattle.language.proofs.OneAnswer.{one-source, madeOf}
+use Rattle.language.proofs.OneAnswer.{one-source}
 use Rattle.language.proofs.Fits.{no-fault, table-fits}
 
 -- the bytes of the file that a compile has made: so many blocks, from the buffer's first byte on
 abbrev pub fileIn : Made → Ended → List ℕ
 fileIn m e = take (512 * m .blocks) (e .buffer)
+
+-- the counts that it tells
+abbrev pub madeOf : List State → List ℕ → Made
+madeOf states file = record { states = length states; blocks = length file / 512 }
 
 pub record Success (l : Lent) (e : Ended) (m : Made) (s : Source) : Type 0 where
   pub ready : Ready l

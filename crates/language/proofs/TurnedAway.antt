@@ -27,9 +27,9 @@ use Rattle.language.specs.Texts.{good, Reads}
 use Rattle.language.specs.Tables.{machineOf}
 use Rattle.language.specs.Promise.{workNeeded, Made, Lent, Ended, Ready, Compiles, made}
 use Rattle.language.proofs.OneTable.{one-file}
-use Rattle.language.proofs.OneAnswer.{madeOf, one-answer, some-answer}
+use Rattle.language.proofs.OneAnswer.{one-answer, some-answer}
 use Rattle.language.proofs.Fits.{no-fault, table-fits}
-use Rattle.language.proofs.Success.{fileIn, success-of, not-given, file-in}
+use Rattle.language.proofs.Success.{fileIn, madeOf, success-of, not-given, file-in}
 use Rattle.language.proofs.Demands.{opens, counts}
 use Rattle.language.proofs.Compiled.{Says}
 use Rattle.language.proofs.Blink.{blinkText, blink, blink-says, idleText, idle, idle-says}
