@@ -6,7 +6,7 @@ use mathlib.Core.Option.{Option, none, some, Option·none-ne-some, Option·some-
 use Prim.Native.Nat.{ℕ, _*_, _≤_}
 use native.Mathlib.Omega.{arith}
 use lib.ListN.{length, drop, length-append, length-drop}
-use Rattle.file_law.specs.Answer.{gives, refuses}
+use Rattle.file_law.specs.Answer.{Answer, gives, refuses}
 use Rattle.meaning.specs.Declared.{Source}
 use Rattle.meaning.specs.Names.{nameFaults}
 use Rattle.meaning.specs.Kinds.{kindFaults}
@@ -18,9 +18,11 @@ use Rattle.language.specs.Grammar.{refuses as refusesWith, Checks, four,
 use Rattle.language.specs.Texts.{refused, Reads, long, text, tree}
 use Rattle.language.specs.Promise.{Made, Lent, Ended, allZero, Compiles, one, two, fault, eleven, twelve, made}
 use Rattle.language.proofs.Success.{madeOf, success, not-given, past-file}
-use Rattle.language.proofs.Demands.{same-number}
 
--- ---- the numbers of a text's refusals
+-- ---- the numbers of refusals
+
+pub same-number : (number place number₁ place₁ : ℕ) → _≡_ {A = Answer Made} (refuses number place) (refuses number₁ place₁) → number ≡ number₁
+same-number number place number₁ place₁ p = cc
 
 abbrev Told : ℕ → Type 0
 Told number = (3 ≤ number) × (number ≤ 10)

@@ -1,16 +1,15 @@
 -- What the promise of compile gives: the file opens and runs as the program, its bytes are the program's alone, room and faults tell as they should.
 -- Assumes nothing.
 use mathlib.Core.Path.{_≡_, refl, sym, _∙_, ap, ap₂, subst}
-use mathlib.Core.Logic.{_↔_}
 use mathlib.Core.List.{List, [], _∷_, map}
 use Prim.Native.Nat.{ℕ, zero, suc, _*_, _^_, _≤_, _<_}
 use native.Mathlib.Omega.{arith}
 use lib.ListN.{length, getD}
 use lib.Pow.{pow-pos}
 use Rattle.reach_law.specs.Machine.{Machine, Inputs, shown}
-use Rattle.reach_law.specs.Count.{Counted, TooMany}
+use Rattle.reach_law.specs.Count.{Counted}
 use Rattle.reach_law.specs.Numbering.{numbered}
-use Rattle.reach_law.proofs.Unique.{numbering-counts, count-above, above-count}
+use Rattle.reach_law.proofs.Unique.{numbering-counts}
 use Rattle.reach_law.proofs.Next.{shown-same}
 use Rattle.file_law.specs.Answer.{Answer, gives, refuses}
 use Rattle.file_law.specs.Table as file
@@ -24,10 +23,10 @@ use Rattle.meaning.specs.Declared.{Source}
 use Rattle.meaning.specs.Checked.{programOf}
 use Rattle.language.specs.Texts.{good, refused, Reads}
 use Rattle.language.specs.Tables.{machineOf, Tabled}
-use Rattle.language.specs.Promise.{Made, Lent, Ended, Ready, FileOf, Compiles, one, two, fault, eleven, twelve, made}
+use Rattle.language.specs.Promise.{Made, Lent, Ended, Ready, FileOf, Compiles, one, fault, made}
 use Rattle.language.proofs.OneTable.{one-file}
-use Rattle.language.proofs.OneAnswer.{not-one, not-two, not-refused, one-source, one-answer}
-use Rattle.language.proofs.Success.{fileIn, madeOf, Success, success, success-of, not-given, whole-blocks, file-in, fits}
+use Rattle.language.proofs.OneAnswer.{one-source, one-answer}
+use Rattle.language.proofs.Success.{fileIn, madeOf, Success, success, success-of, whole-blocks, file-in, fits}
 
 -- ---- the file opens, and runs as the program
 
@@ -135,25 +134,6 @@ more-room {l} {k} {e} {f} {m} c p same h r b d =
     let reads : Reads (k .source) (good s) = subst (λ (text : List ℕ). Reads text (good s)) same (y .reads) in
     let q : f .answer ≡ gives m = ap (λ (x : Ended). x .answer) (one-answer d (made r reads (y .filed) (omega (arith, y .room)) (omega (arith, whole-blocks y)))) ∙ ap gives (y .gave) in
     (q, text-fixed d q c p (sym same) .1)
-
-pub same-number : (number place number₁ place₁ : ℕ) → _≡_ {A = Answer Made} (refuses number place) (refuses number₁ place₁) → number ≡ number₁
-same-number number place number₁ place₁ p = cc
-
--- "11 | reachable states above the room": exactly then
-pub refused-states : {l : Lent} {e : Ended} {s : Source} → Ready l → Reads (l .source) (good s) → Compiles l e → (e .answer ≡ refuses 11 0) ↔ TooMany (machineOf (programOf s)) (l .room)
-refused-states {l} {e} {s} r x c = (over c, λ t. ap (λ (a : Ended). a .answer) (one-answer c (eleven r x t)))
-  where
-    over : {e : Ended} → Compiles l e → e .answer ≡ refuses 11 0 → TooMany (machineOf (programOf s)) (l .room)
-    over (one h) p = not-one h (r .room)
-    over (two q h) p = not-two h r
-    over (fault q y) p = not-refused x y
-    over (eleven q y t) p = subst (λ (v : Source). TooMany (machineOf (programOf v)) (l .room)) (one-source y x) t
-    over (twelve q y f n h) p = absurd (omega (arith, same-number 12 0 11 0 p))
-    over (made {states = states} {file = file} q y f n h) p = not-given (madeOf states file) 11 0 (sym p)
-
--- .. that is, when the count is above the room
-pub refused-count : {l : Lent} {e : Ended} {s : Source} {n : ℕ} → Ready l → Reads (l .source) (good s) → Counted (machineOf (programOf s)) n → Compiles l e → (e .answer ≡ refuses 11 0) ↔ (l .room < n)
-refused-count r x n c = let (there, back) = refused-states r x c in (λ p. count-above (there p) n, λ h. back (above-count n h))
 
 -- ---- a fault in the text
 

@@ -21,3 +21,4 @@ pub mod Areas
 pub mod Compiled
 pub mod Blink
 pub mod TurnedAway
+pub mod Exactly

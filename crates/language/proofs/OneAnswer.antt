@@ -38,11 +38,11 @@ not-refused {text = text} {s = s} {number = number} {place = place} x y = clash 
     clash : {A : Type 0} → good s ≡ refused number place → A
     clash p = let z : _≡_ {A = ℕ} 0 1 = cc in absurd (omega arith)
 
-same-refusal : (l : Lent) {number place number₁ place₁ : ℕ} → refused number place ≡ refused number₁ place₁ → refusal l (allZero (l .work)) number place ≡ refusal l (allZero (l .work)) number₁ place₁
-same-refusal l {number} {place} {number₁} {place₁} p =
+same-refusal : (l : Lent) (work : List ℕ) {number place number₁ place₁ : ℕ} → refused number place ≡ refused number₁ place₁ → refusal l work number place ≡ refusal l work number₁ place₁
+same-refusal l work {number} {place} {number₁} {place₁} p =
     let n : number ≡ number₁ = cc in
     let q : place ≡ place₁ = cc in
-    ap₂ (refusal l (allZero (l .work))) n q
+    ap₂ (refusal l work) n q
 
 -- a text has one file, in one numbering
 pub one-file-of : {text : List ℕ} {s v : Source} {states states₁ : List State} {file file₁ : List ℕ} → Reads text (good s) → FileOf s states file → Reads text (good v) → FileOf v states₁ file₁
@@ -82,7 +82,7 @@ one-answer (two q h) (twelve r x f n k) = not-two h r
 one-answer (two q h) (made r x f n k) = not-two h r
 one-answer (fault q x) (one k) = not-one k (q .room)
 one-answer (fault q x) (two r k) = not-two k q
-one-answer {l} (fault q x) (fault r y) = same-refusal l (one-reads (l .source) x y)
+one-answer {l} (fault q x) (fault r y) = same-refusal l _ (one-reads (l .source) x y)
 one-answer (fault q x) (eleven r y t) = not-refused y x
 one-answer (fault q x) (twelve r y f n k) = not-refused y x
 one-answer (fault q x) (made r y f n k) = not-refused y x
@@ -112,26 +112,26 @@ some-answer l = least (decLt (l .room) 1)
   where
     filed : Ready l → (s : Source) → Reads (l .source) (good s) → (states : List State) → length states ≤ l .room → (file : List ℕ) → FileOf s states file → Dec (length (l .buffer) < length file)
         → (e : Ended) × Compiles l e
-    filed r s x states n file f (yes h) = (refusal l (allZero (l .work)) 12 0, twelve r x f n h)
+    filed r s x states n file f (yes h) = (_, twelve r x f n h)
     filed r s x states n file f (no h) = (_, made r x f n (omega arith))
 
     counted : Ready l → (s : Source) → Reads (l .source) (good s) → ((states : List State) × Numbering (machineOf (programOf s)) states × (length states ≤ l .room)) ⊎ TooMany (machineOf (programOf s)) (l .room)
         → (e : Ended) × Compiles l e
     counted r s x (inl (states, u, n)) = let f = some-file s states u in filed r s x states n _ f (decLt (length (l .buffer)) _)
-    counted r s x (inr t) = (refusal l (allZero (l .work)) 11 0, eleven r x t)
+    counted r s x (inr t) = (_, eleven r x t)
 
     reading : Ready l → (r : Reading) → Reads (l .source) r → (e : Ended) × Compiles l e
-    reading r (refused number place) x = (refusal l (allZero (l .work)) number place, fault r x)
+    reading r (refused number place) x = (_, fault r x)
     reading r (good s) x = counted r s x (decided sameState (machineOf (programOf s)) (l .room))
 
     worked : RoomFits (l .room) → Dec (length (l .work) < workNeeded (l .room)) → (e : Ended) × Compiles l e
-    worked r (yes h) = (refusal l (l .work) 2 0, two r h)
+    worked r (yes h) = (_, two r h)
     worked r (no h) = reading (record { room = r; work = omega arith }) (readingOf (l .source)) (reading-right (l .source))
 
     most : 1 ≤ l .room → Dec (mostStates < l .room) → (e : Ended) × Compiles l e
-    most h (yes k) = (refusal l (l .work) 1 0, one (inr k))
+    most h (yes k) = (_, one (inr k))
     most h (no k) = worked (record { some = h; few = omega arith }) (decLt (length (l .work)) (workNeeded (l .room)))
 
     least : Dec (l .room < 1) → (e : Ended) × Compiles l e
-    least (yes h) = (refusal l (l .work) 1 0, one (inl h))
+    least (yes h) = (_, one (inl h))
     least (no h) = most (omega arith) (decLt mostStates (l .room))
