@@ -12,3 +12,5 @@ pub mod LevelExamples
 pub mod BindingExamples
 pub mod Readings
 pub mod Listing
+pub mod Computing
+pub mod Trials
