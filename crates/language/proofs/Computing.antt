@@ -1,5 +1,6 @@
 -- What a text that is written out comes to. A proof that unfolds `tablesOf` computes it, through every definition: they are named here and nowhere else.
 -- Assumes nothing.
+use mathlib.Core.Path.{_≡_}
 use Prim.Native.Nat.{ℕ}
 use Prim.Native.String.{String}
 use Rattle.ll1.specs.Values as values
@@ -10,6 +11,7 @@ use Rattle.ll1.proofs.Derived as derived
 use Rattle.ll1.proofs.Parsed as parsed
 use Rattle.reach_law.specs.Search as search
 use Rattle.file_law.specs.Answer as answer
+use Rattle.file_law.specs.Table.{mostStates}
 use Rattle.meaning.specs.Numbers as numbers
 use Rattle.meaning.specs.Tries as tries
 use Rattle.meaning.specs.Clock as clock
@@ -51,3 +53,7 @@ unfolding
     printing.decimalBy printing.spaced printing.rowLines printing.listingOf printing.refusalLine
     readings.wordsReading readings.readingOf listing.tableOf listing.tablesIn
 tablesOf room s = listing.tablesIn room (bytes s)
+
+-- the listing program prints this for the source
+abbrev pub Lists : String → String → Type 0
+Lists source print = listing.printed (tablesOf mostStates source) ≡ bytes print

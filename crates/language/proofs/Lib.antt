@@ -14,3 +14,5 @@ pub mod Readings
 pub mod Listing
 pub mod Computing
 pub mod Trials
+pub mod RefusalExamples
+pub mod StateExamples

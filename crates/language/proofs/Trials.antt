@@ -6,16 +6,11 @@ use Prim.Native.Nat.{ℕ}
 use Prim.Native.String.{String}
 use lib.ListN.{replicate}
 use Rattle.file_law.specs.Answer.{Answer, gives, refuses}
-use Rattle.file_law.specs.Table.{mostStates}
 use Rattle.file_law.specs.File.{words, rowBytes, rowsBytes, streamOf}
-use Rattle.language.specs.Words.{bytes}
 use Rattle.language.specs.Texts.{refused}
 use Rattle.language.proofs.Readings.{readingOf}
-use Rattle.language.proofs.Listing.{Tables, printed}
-use Rattle.language.proofs.Computing.{tablesOf}
-
-abbrev pub Lists : String → String → Type 0
-Lists source print = printed (tablesOf mostStates source) ≡ bytes print
+use Rattle.language.proofs.Listing.{Tables}
+use Rattle.language.proofs.Computing.{tablesOf, Lists}
 
 abbrev streamed : Tables → Answer (List ℕ)
 streamed (gives x) = gives (streamOf (x .1))
