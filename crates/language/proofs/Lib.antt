@@ -11,6 +11,7 @@ pub mod GrammarExamples
 pub mod LevelExamples
 pub mod BindingExamples
 pub mod Readings
+pub mod Tables
 pub mod Listing
 pub mod Computing
 pub mod Trials
