@@ -72,7 +72,8 @@ pub record Trials : Type 0 where
   -- "Keeping the other branches' tries when one jumps"
   pub dropped : Lists 256 "program p; output A, B; loop parallel raise(A) || exit endparallel endloop; raise(B) endprog" "machine p\ninputs -\noutputs A B\nstates 2\n0 0 0 1\n1 0 1 1\n"
   -- "Source 8,193 bytes: 3."
-  pub long : Prints (replicate 8193 32) (bytes "refused 3 at 0\n")
+  pub long : Prints (replicate 8193 95) (bytes "refused 3 at 0\n")
+  pub not-long : Prints (replicate 8192 95) (bytes "refused 4 at 0\n")
 
 pub trials : Trials
 unfolding yieldIn words rowBytes rowsBytes streamOf
@@ -105,5 +106,6 @@ trials =
       all-cases = lists refl;
       below-zero = lists refl;
       dropped = lists refl;
-      long = listing-right (replicate 8193 32);
+      long = listing-right (replicate 8193 95);
+      not-long = listing-right (replicate 8192 95);
     }
