@@ -41,7 +41,7 @@ use Rattle.language.specs.Promise.{FileOf}
 use Rattle.language.proofs.Texts.{wordsIn}
 use Rattle.language.proofs.Claims as claimed
 use Rattle.language.proofs.Readings.{wordsReading, readingOf, reading-right}
-use Rattle.language.proofs.Listing.{tableOf, table-right}
+use Rattle.language.proofs.Tables.{tableOf, table-right}
 
 abbrev pub tableFrom : Source → Option (List State) → Option Table
 tableFrom s none = none

@@ -11,6 +11,7 @@ pub mod GrammarExamples
 pub mod LevelExamples
 pub mod BindingExamples
 pub mod Readings
+pub mod Tables
 pub mod Listing
 pub mod OneTable
 pub mod OneAnswer
@@ -22,3 +23,7 @@ pub mod Compiled
 pub mod Blink
 pub mod TurnedAway
 pub mod Exactly
+pub mod Computing
+pub mod Trials
+pub mod RefusalExamples
+pub mod StateExamples

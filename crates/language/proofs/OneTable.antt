@@ -16,7 +16,7 @@ use Rattle.meaning.specs.Declared.{Source}
 use Rattle.meaning.specs.Checked.{programOf}
 use Rattle.language.specs.Tables.{machineOf, Tabled}
 use Rattle.language.specs.Promise.{FileOf}
-use Rattle.language.proofs.Listing.{tableOf, table-right}
+use Rattle.language.proofs.Tables.{tableOf, table-right}
 
 -- ---- no second table
 

@@ -6,3 +6,4 @@ pub mod Texts
 pub mod Tables
 pub mod Promise
 pub mod Printed
+pub mod Listings

@@ -1,4 +1,4 @@
--- With steps enough the parser answers.
+-- With steps enough the parser answers; how many it takes is computed along the way.
 -- Assumes nothing.
 use mathlib.Core.Bool.{Bool, true, false}
 use mathlib.Core.Path.{_≡_, refl}
