@@ -19,11 +19,11 @@ pub mod Fits
 pub mod Success
 pub mod Demands
 pub mod Areas
+pub mod Computing
 pub mod Compiled
 pub mod Blink
 pub mod TurnedAway
 pub mod Exactly
-pub mod Computing
 pub mod Trials
 pub mod RefusalExamples
 pub mod StateExamples

@@ -16,24 +16,7 @@ use Rattle.meaning.specs.Declared.{Source}
 use Rattle.meaning.specs.Checked.{programOf}
 use Rattle.language.specs.Tables.{machineOf, Tabled}
 use Rattle.language.specs.Promise.{FileOf}
-use Rattle.language.proofs.Tables.{tableOf, table-right}
-
--- ---- no second table
-
-module _ {p : Program} {states : List State} (u : Numbering (machineOf p) states) {t v : Table} (a : Tabled p states t) (b : Tabled p states v) where
-  same-nexts : (i : ℕ) → i < length states → rowOf t i .nexts ≡ rowOf v i .nexts
-  same-nexts i h =
-      ext-getD 0 (rowOf t i .nexts) (rowOf v i .nexts) (a .wide i h ∙ sym (b .wide i h))
-      (λ x k. let l : x < 2 ^ p .inputs = omega (arith, a .wide i h) in one-next u (a .leads i x h l) (b .leads i x h l))
-
-  same-row : (i : ℕ) → i < length states → rowOf t i ≡ rowOf v i
-  same-row i h = λ j. record { outputs = (a .shows i h ∙ sym (b .shows i h)) j; nexts = same-nexts i h j }
-
-  same-rows : t .rows ≡ v .rows
-  same-rows = ext-getD noRow (t .rows) (v .rows) (a .size ∙ sym (b .size)) (λ i h. same-row i (omega (arith, a .size)))
-
-  pub one-table : t ≡ v
-  one-table = λ j. record { inputs = (a .inputs ∙ sym (b .inputs)) j; outputs = (a .outputs ∙ sym (b .outputs)) j; rows = same-rows j }
+use Rattle.language.proofs.Tables.{tableOf, table-right, one-table}
 
 -- ---- no second file
 
@@ -41,7 +24,7 @@ pub one-file : {s : Source} {states states₁ : List State} {file file₁ : List
 one-file {s} {states} {states₁} {file} {file₁} a b =
     let e : states ≡ states₁ = one-numbering (a .numbers) (b .numbers) in
     let tabled : Tabled (programOf s) states (b .table) = subst (λ (l : List State). Tabled (programOf s) l (b .table)) (sym e) (b .tabled) in
-    (e, a .bytes ∙ ap (λ (t : Table). fileOf (streamOf t)) (one-table (a .numbers) (a .tabled) tabled) ∙ sym (b .bytes))
+    (e, a .bytes ∙ ap (λ (t : Table). fileOf (streamOf t)) (one-table (programOf s) states (a .numbers) (a .table) (b .table) (a .tabled) tabled) ∙ sym (b .bytes))
 
 -- ---- there is one
 
