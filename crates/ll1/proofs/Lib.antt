@@ -7,3 +7,4 @@ pub mod Whole
 pub mod Answered
 pub mod Derived
 pub mod OneValue
+pub mod Then
