@@ -8,3 +8,5 @@ pub mod Answered
 pub mod Derived
 pub mod OneValue
 pub mod Then
+pub mod Steps
+pub mod Turns
