@@ -10,3 +10,5 @@ pub mod OneValue
 pub mod Then
 pub mod Steps
 pub mod Turns
+pub mod Served
+pub mod Reading
