@@ -8,11 +8,11 @@ use Prim.Native.Nat.{ℕ, zero, suc, _+_, _*_, _/_, _%_, _≤_, _<_}
 use native.Mathlib.Nat.{add-zero, zero-add, add-suc, suc-add}
 use native.Mathlib.Decide.{decLt}
 use native.Mathlib.Omega.{arith}
-use lib.ListN.{length, getD, drop}
+use lib.ListN.{length, getD, drop, List·getD-eq-default}
 use lib.Dec.{eqb, ltb, leb}
 use borrow.Author.Tests.{eqb-true, ltb-true, leb-true, lt-ltb, le-ltb}
 use Rattle.ll1.specs.Grammar.{Symbol, word, part, In, Out, Row, Grammar, rowAt}
-use Rattle.ll1.specs.Rows.{firstPart, columns, mostDeep, mostBytes, Codes, rowOf, row, startOf, closes, deep, idle, Kept, Tables}
+use Rattle.ll1.specs.Rows.{opening, firstPart, columns, mostDeep, mostBytes, Codes, rowOf, row, startOf, closes, deep, idle, Kept, Tables}
 use Rattle.ll1.proofs.Tests.{Claims, pick}
 use Rattle.ll1.proofs.Sets.{clash, and-left, and-right}
 use Rattle.ll1.proofs.Then.{withRow, picks}
@@ -27,16 +27,21 @@ every-at f i [] e k h = absurd (omega arith)
 every-at f i (x ∷ l) e zero h = rw add-zero (and-left (f i x) (every f (suc i) l) e)
 every-at f i (x ∷ l) e (suc k) h = rw (add-suc, ← suc-add) (every-at f (suc i) l (and-right (f i x) (every f (suc i) l) e) k (omega arith))
 
--- bytes below a bound
-unfoldable pub below : ℕ → List ℕ → Bool
-below b [] = true
-below b (x ∷ l) = ltb x b && below b l
+-- a byte of the rows is a kind in use, a mark, or one of so many parts
+unfoldable pub inRange : ℕ → ℕ → ℕ → ℕ → Bool
+inRange used count p x = elim (ltb x opening) [ true ↦ ltb x used | false ↦ ltb x (firstPart + count) ]
 
-below-at : (b : ℕ) (l : List ℕ) → 0 < b → below b l ≡ true → (p : ℕ) → getD l p 0 < b
-unfolding below
-below-at b [] h e p = omega arith
-below-at b (x ∷ l) h e zero = ltb-true x b (and-left (ltb x b) (below b l) e)
-below-at b (x ∷ l) h e (suc p) = below-at b l h (and-right (ltb x b) (below b l) e) p
+range-coded : (used count p x : ℕ) → inRange used count p x ≡ true → x < opening → x < used
+unfolding inRange
+range-coded used count p x e h = ltb-true x used (rw (lt-ltb x opening h, inRange) at e)
+
+range-known : (used count p x : ℕ) → inRange used count p x ≡ true → x < firstPart + count
+unfolding inRange
+range-known used count p x e = go (decLt x opening)
+  where
+    go : Dec (x < opening) → x < firstPart + count
+    go (yes h) = omega arith
+    go (no h) = ltb-true x (firstPart + count) (rw (le-ltb x opening (omega arith), inRange) at e)
 
 module _ {K P : Type 0} (C : Claims K P) (samePart : P → P → Bool) where
   unfoldable pub sameSymbol : Symbol K P → Symbol K P → Bool
@@ -109,7 +114,7 @@ module _ {K P : Type 0} (C : Claims K P) (G : Grammar K P) (samePart : P → P �
   entry k x = keptAt (D .part (k / columns)) (k % columns) x && lastAt (k % columns) x
 
   module _ (part-true : (x y : P) → samePart x y ≡ true → x ≡ y) (starts : List ℕ) (count : ℕ) (whole : length starts ≡ count * columns) (short : leb (length rows) mostBytes ≡ true)
-      (first : getD rows 0 0 ≡ 0) (bytes : below (firstPart + count) rows ≡ true) (all : every entry 0 starts ≡ true)
+      (first : getD rows 0 0 ≡ 0) (nonzero : ltb 0 (D .used) ≡ true) (bytes : every (inRange (D .used) count) 0 rows ≡ true) (all : every entry 0 starts ≡ true)
       (far : (n : P) (t : ℕ) → columns ≤ t → pick C n (some (D .kind t)) 0 (G n) ≡ none) (over : (n : P) → pick C n none 0 (G n) ≡ none)
       (low : (n : P) → depth n < mostDeep) (few : (n : P) → turn n < mostDeep) where
     abbrev Keeps : ℕ → ℕ → Type 0
@@ -179,12 +184,22 @@ module _ {K P : Type 0} (C : Claims K P) (G : Grammar K P) (samePart : P → P �
     unfolding startOf lastAt
     last n h = eqb-true (getD starts (n * columns + 0) 0) 0 (and-right (keptAt (D .part n) 0 (getD starts (n * columns + 0) 0)) _ (entry-at n 0 h (omega arith)))
 
+    -- what holds of 0 and of each byte in range holds at every place
+    at-byte : (Q : ℕ → Type 0) → Q 0 → ((x : ℕ) → inRange (D .used) count 0 x ≡ true → Q x) → (p : ℕ) → Q (getD rows p 0)
+    unfolding inRange
+    at-byte Q z f p = go (decLt p (length rows))
+      where
+        go : Dec (p < length rows) → Q (getD rows p 0)
+        go (yes h) = f (getD rows p 0) (every-at (inRange (D .used) count) 0 rows bytes p h)
+        go (no h) = rw (List·getD-eq-default rows 0 {n = p} (omega arith)) z
+
     pub served : Tables D (picks C G) depth turn rows starts
     served =
         record {
           count = count;
           short = leb-true (length rows) mostBytes short;
-          known = below-at (firstPart + count) rows (omega arith) bytes;
+          coded = λ p h. at-byte (λ x. x < opening → x < D .used) (λ g. ltb-true 0 (D .used) nonzero) (range-coded (D .used) count 0) p h;
+          known = λ p. at-byte (λ x. x < firstPart + count) (omega arith) (range-known (D .used) count 0) p;
           at = at;
           last = last;
           over = λ n h. ap (withRow C G (D .part n)) (over (D .part n));

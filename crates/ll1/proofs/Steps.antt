@@ -175,7 +175,7 @@ module _ {K P : Type 0} (D : Codes K P) (choose : Choice K P) (depth : P → ℕ
           goes = λ o x. g .goes o (rw (words-here D w i h) (shift (ap (D .kind) (sym e)) (rw add-one at x)));
         }
 
-    pub stop-word : (s : ℕ) (r : Row K P) (i k : ℕ) → Going w a₀ i₀ k₀ (word (D .kind s) ∷ r) i k → ¬ (s ≡ 0) → s < opening → ¬ (getD w i 0 ≡ s) → StopsAt D choose a₀ w i₀ k₀ i
+    pub stop-word : (s : ℕ) (r : Row K P) (i k : ℕ) → Going w a₀ i₀ k₀ (word (D .kind s) ∷ r) i k → ¬ (s ≡ 0) → s < D .used → ¬ (getD w i 0 ≡ s) → StopsAt D choose a₀ w i₀ k₀ i
     stop-word s r i k g m b n = stops (word (D .kind s) ∷ r) i k g i (g .fits) (go (decLt i (length w)))
       where
         go : Dec (i < length w) → Goes choose k (word (D .kind s) ∷ r) (drop i (words D w)) (stopped (drop i (words D w)))

@@ -36,8 +36,11 @@ module _ {K P : Type 0} {D : Codes K P} {choose : Choice K P} {depth turn : P �
     here : row D rows p ≡ word (D .kind s) ∷ row D rows (p + 1)
     here = row-word D rows p s (h .byte) n b
 
+    coded : s < D .used
+    coded = rw (h .byte) (h .tables .coded p (rw (h .byte) at b))
+
     pub word-stops : (t : ℕ) → t ≡ getD w i 0 → ¬ (t ≡ s) → StopsAt D choose a₀ w i₀ k₀ i
-    word-stops t e d = stop-word D choose depth w a₀ i₀ k₀ s (row D rows (p + 1)) i k (seen _ here) n b (λ z. d (e ∙ z))
+    word-stops t e d = stop-word D choose depth w a₀ i₀ k₀ s (row D rows (p + 1)) i k (seen _ here) n coded (λ z. d (e ∙ z))
 
     module _ (t : ℕ) (e : t ≡ getD w i 0) (d : t ≡ s) where
       pub word-inside : i < length w

@@ -32,11 +32,12 @@ mostDeep = 16
 abbrev pub mostBytes : ℕ
 mostBytes = 1000
 
--- what the numbers stand for: each kind of a row has one number
+-- what the numbers stand for: the kinds from 1 on and below `used` have one number each
 pub record Codes (K P : Type 0) : Type 0 where
   pub kind : ℕ → K
   pub part : ℕ → P
-  pub told : (s t : ℕ) → ¬ (s ≡ 0) → s < opening → kind s ≡ kind t → s ≡ t
+  pub used : ℕ
+  pub told : (s t : ℕ) → ¬ (s ≡ 0) → s < used → kind s ≡ kind t → s ≡ t
 
 module _ {K P : Type 0} (D : Codes K P) where
   unfoldable pub symOf : ℕ → Symbol K P
@@ -106,10 +107,11 @@ module _ {K P : Type 0} (D : Codes K P) (choose : Choice K P) where
     pub deeper : deep depth 0 (row D rows (startOf starts n t)) ≤ depth (D .part n)
     pub turns : idle turn (row D rows (startOf starts n t)) ≤ turn (D .part n)
 
-  -- the tables serve a reader: the rows name the parts below `count`, and at the end of the words, and at a word of kind 0, no rule is called for
+  -- the tables serve a reader: the rows name kinds in use and the parts below `count`, and at the end of the words, and at a word of kind 0, no rule is called for
   pub record Tables (depth turn : P → ℕ) (rows starts : List ℕ) : Type 0 where
     pub count : ℕ
     pub short : length rows ≤ mostBytes
+    pub coded : (p : ℕ) → getD rows p 0 < opening → getD rows p 0 < D .used
     pub known : (p : ℕ) → getD rows p 0 < firstPart + count
     pub at : (n t : ℕ) → n < count → Kept depth turn rows starts n t
     pub last : (n : ℕ) → n < count → startOf starts n 0 ≡ 0
