@@ -2,6 +2,7 @@ pub mod Runs
 pub mod Signs
 pub mod Longest
 pub mod Cutting
+pub mod Numbered
 pub mod Claims
 pub mod Spelled
 pub mod Checking
