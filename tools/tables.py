@@ -134,7 +134,8 @@ def numbers(name, comment, value):
     lines = ['-- ' + comment, 'unfoldable pub %s : Part → ℕ' % name]
     lines += ['%s %s = %d' % (name, p, value[p]) for p in named]
     for kind in ('Tier', 'Further'):
-        lines.append('%s (%s n) = getD (%s) n 0' % (name, kind, listed(value.get('%s %d' % (kind, n), 0) for n in range(len(binding) + 1))))
+        values = [value.get('%s %d' % (kind, n), 0) for n in range(len(binding) + 1)]
+        lines.append('%s (%s n) = getD (%s) n %d' % (name, kind, listed(values[:-1]), values[-1]))
     return '\n'.join(lines) + '\n'
 
 

@@ -40,8 +40,8 @@ depth Cases = 7
 depth Branches = 7
 depth Target = 0
 depth Index = 0
-depth (Tier n) = getD (5 ∷ 4 ∷ 3 ∷ 2 ∷ 2 ∷ 1 ∷ 0 ∷ []) n 0
-depth (Further n) = getD (5 ∷ 4 ∷ 3 ∷ 0 ∷ 2 ∷ 1 ∷ 0 ∷ []) n 0
+depth (Tier n) = getD (5 ∷ 4 ∷ 3 ∷ 2 ∷ 2 ∷ 1 ∷ []) n 0
+depth (Further n) = getD (5 ∷ 4 ∷ 3 ∷ 0 ∷ 2 ∷ 1 ∷ []) n 0
 
 -- how many turns a part takes at most before a word is read
 unfoldable pub turn : Part → ℕ
@@ -67,5 +67,5 @@ turn Cases = 0
 turn Branches = 0
 turn Target = 0
 turn Index = 0
-turn (Tier n) = getD (2 ∷ 2 ∷ 2 ∷ 3 ∷ 2 ∷ 2 ∷ 1 ∷ []) n 0
-turn (Further n) = getD (0 ∷ 0 ∷ 0 ∷ 0 ∷ 0 ∷ 0 ∷ 0 ∷ []) n 0
+turn (Tier n) = getD (2 ∷ 2 ∷ 2 ∷ 3 ∷ 2 ∷ 2 ∷ []) n 1
+turn (Further n) = getD (0 ∷ 0 ∷ 0 ∷ 0 ∷ 0 ∷ 0 ∷ []) n 0

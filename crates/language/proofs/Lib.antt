@@ -3,6 +3,7 @@ pub mod Signs
 pub mod Longest
 pub mod Cutting
 pub mod Numbered
+pub mod EveryPart
 pub mod Claims
 pub mod Spelled
 pub mod Checking
