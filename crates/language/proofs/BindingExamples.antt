@@ -16,34 +16,34 @@ use Rattle.language.proofs.Texts.{wordsIn}
 use Rattle.language.proofs.Claims as claimed
 
 -- every part is worth bytes, made from those of the operand before it: only what follows an operand looks at them
-abbrev Shown : Type 0
+abbrev pub Shown : Type 0
 Shown = List ℕ → List ℕ
 
-abbrev Worth : Part → Type 0
+abbrev pub Worth : Part → Type 0
 Worth n = Shown
 
-abbrev inside : List ℕ → List ℕ
+abbrev pub inside : List ℕ → List ℕ
 inside s = bytes "(" ++ (s ++ bytes ")")
 
-abbrev ignored : (rows : List Line) → Makes (List ℕ) Worth Shown rows
+abbrev pub ignored : (rows : List Line) → Makes (List ℕ) Worth Shown rows
 ignored [] = tt
 ignored (r ∷ rows) = (λ v a. a, ignored rows)
 
-abbrev tier-makes : (n : ℕ) (o : Option Strength) → Makes (List ℕ) Worth Shown (tier n o)
+abbrev pub tier-makes : (n : ℕ) (o : Option Strength) → Makes (List ℕ) Worth Shown (tier n o)
 tier-makes n (some (between ops)) = (λ v a. v .1 .0 (v .0 []), tt)
 tier-makes n (some (before op)) = (λ v a. inside (v .0 ++ v .1 .0 []), (λ v a. v .0 [], tt))
 tier-makes n none = (λ v a. v .0 ++ v .1 .0 [], (λ v a. v .0, (λ v a. v .0, (λ v a. v .0, (λ v a. v .0 ++ inside (v .1 .1 .0 []), (λ v a. v .1 .0 [], tt))))))
 
-abbrev each : (n : ℕ) (ops : List String) → Makes (List ℕ) Worth Shown (map (λ op. op ▸ Tier (suc n) ▹ Further n ▹ ε) ops)
+abbrev pub each : (n : ℕ) (ops : List String) → Makes (List ℕ) Worth Shown (map (λ op. op ▸ Tier (suc n) ▹ Further n ▹ ε) ops)
 each n [] = tt
 each n (op ∷ ops) = (λ v a. v .1 .1 .0 (inside (a ++ (v .0 ++ v .1 .0 []))), each n ops)
 
-abbrev further-makes : (n : ℕ) (o : Option Strength) → Makes (List ℕ) Worth Shown (further n o)
+abbrev pub further-makes : (n : ℕ) (o : Option Strength) → Makes (List ℕ) Worth Shown (further n o)
 further-makes n (some (between ops)) = (λ v a. a, each n ops)
 further-makes n (some (before op)) = (λ v a. a, tt)
 further-makes n none = (λ v a. a, tt)
 
-unfoldable makes : (n : Part) → Makes (List ℕ) Worth Shown (csml n)
+unfoldable pub makes : (n : Part) → Makes (List ℕ) Worth Shown (csml n)
 unfolding csml
 makes Program = ignored (csml Program)
 makes Declarations = ignored (csml Declarations)
@@ -71,36 +71,36 @@ makes (Tier n) = tier-makes n (getElem? binding n)
 makes (Further n) = further-makes n (getElem? binding n)
 
 -- an expression, and the word behind it
-abbrev start : Line
+abbrev pub start : Line
 start = Expression ▹ ")" ▸ ε
 
-abbrev worth : (ks : List Kind) (text : List (List ℕ)) → Option (Sentence csml mostLevels start ks) → List ℕ
+abbrev pub worth : (ks : List Kind) (text : List (List ℕ)) → Option (Sentence csml mostLevels start ks) → List ℕ
 worth ks text (some x) = valuesOf (List ℕ) Worth csml makes (λ m. getD text m []) (x .1) (x .2) 0 .0 []
 worth ks text none = []
 
-abbrev of : List Word → List ℕ
+abbrev pub of : List Word → List ℕ
 of ws = worth (kinds ws) (map (λ w. w .bytes) ws) (derived claimed.claims csml claimed.passes 400 mostLevels start (kinds ws))
 
-abbrev _means_ : String → String → Type 0
+abbrev pub _means_ : String → String → Type 0
 s means t = of (wordsIn s ++ wordsIn ")") ≡ bytes t
 
 infix 20 _means_
 pub record Examples : Type 0 where
   -- "Binding, lowest to highest, as 000 and 001 print it"
-  printed : "newcard > 10 & newcard < 14" means "((newcard>(10&newcard))<14)"
-  and-or : "a & b | c" means "(a&(b|c))"
-  or-and : "a | b & c" means "((a|b)&c)"
-  equal-and : "a & b == c | d" means "((a&b)==(c|d))"
-  not-or : "!a | !b" means "((!a)|(!b))"
-  not-sum : "!x + 1 > 2" means "((!(x+1))>2)"
-  sum-product : "a + b * c - d % e" means "((a+(b*c))-(d%e))"
+  pub printed : "newcard > 10 & newcard < 14" means "((newcard>(10&newcard))<14)"
+  pub and-or : "a & b | c" means "(a&(b|c))"
+  pub or-and : "a | b & c" means "((a|b)&c)"
+  pub equal-and : "a & b == c | d" means "((a&b)==(c|d))"
+  pub not-or : "!a | !b" means "((!a)|(!b))"
+  pub not-sum : "!x + 1 > 2" means "((!(x+1))>2)"
+  pub sum-product : "a + b * c - d % e" means "((a+(b*c))-(d%e))"
   -- "Binary operators group from the left"
-  compared : "a == b != c > d < e" means "((((a==b)!=c)>d)<e)"
-  minus : "a - b - c" means "((a-b)-c)"
-  divided : "a / b * c % d" means "(((a/b)*c)%d)"
-  ors : "a | b | c" means "((a|b)|c)"
+  pub compared : "a == b != c > d < e" means "((((a==b)!=c)>d)<e)"
+  pub minus : "a - b - c" means "((a-b)-c)"
+  pub divided : "a / b * c % d" means "(((a/b)*c)%d)"
+  pub ors : "a | b | c" means "((a|b)|c)"
   -- parentheses, `int` and bits
-  parentheses : "(a & b) | int(x[2] - 1)" means "((a&b)|int((x[2]-1)))"
+  pub parentheses : "(a & b) | int(x[2] - 1)" means "((a&b)|int((x[2]-1)))"
 
 pub examples : Examples
 unfolding wordsIn has beginRow pick binding csml claimed.claims claimed.first claimed.empty claimed.follow

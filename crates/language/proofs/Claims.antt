@@ -14,6 +14,7 @@ use Rattle.ll1.proofs.Tests.{Claims, has, within, apart, emptyRow, beginRow, fo
 use Rattle.ll1.proofs.Forced.{Good}
 use Rattle.language.specs.Words.{Kind, name, number, the}
 use Rattle.language.specs.Grammar.{Part, Program, Declarations, Declaration, Inputs, MoreInputs, Ending, Booleans, MoreBooleans, BooleanStart, BooleanValue, Integers, MoreIntegers, IntegerStart, Statements, AfterStatement, NextStatement, Statement, Else, Cases, Branches, Target, Index, Tier, Further, Strength, between, before, binding, csml, wholeProgram}
+use Rattle.language.proofs.EveryPart.{every-part}
 
 -- ---- kinds are told apart
 
@@ -239,81 +240,11 @@ claims = record { same = sameKind; same-true = same-true; same-self = same-self;
 
 parted : (n : Part) → allDiffer claims n (csml n) ≡ true
 unfolding claims first empty follow rank csml binding has within apart emptyRow beginRow follows falls keeps differs allDiffer
-parted Program = refl
-parted Declarations = refl
-parted Declaration = refl
-parted Inputs = refl
-parted MoreInputs = refl
-parted Ending = refl
-parted Booleans = refl
-parted MoreBooleans = refl
-parted BooleanStart = refl
-parted BooleanValue = refl
-parted Integers = refl
-parted MoreIntegers = refl
-parted IntegerStart = refl
-parted Statements = refl
-parted AfterStatement = refl
-parted NextStatement = refl
-parted Statement = refl
-parted Else = refl
-parted Cases = refl
-parted Branches = refl
-parted Target = refl
-parted Index = refl
-parted (Tier zero) = refl
-parted (Tier (suc zero)) = refl
-parted (Tier (suc (suc zero))) = refl
-parted (Tier (suc (suc (suc zero)))) = refl
-parted (Tier (suc (suc (suc (suc zero))))) = refl
-parted (Tier (suc (suc (suc (suc (suc zero)))))) = refl
-parted (Tier (suc (suc (suc (suc (suc (suc n))))))) = refl
-parted (Further zero) = refl
-parted (Further (suc zero)) = refl
-parted (Further (suc (suc zero))) = refl
-parted (Further (suc (suc (suc zero)))) = refl
-parted (Further (suc (suc (suc (suc zero))))) = refl
-parted (Further (suc (suc (suc (suc (suc zero)))))) = refl
-parted (Further (suc (suc (suc (suc (suc (suc n))))))) = refl
+parted = every-part (λ n. allDiffer claims n (csml n)) refl (λ n. refl) (λ n. refl)
 
 finite : (n : Part) → someSmall claims n (csml n) ≡ true
 unfolding claims size csml binding smaller someSmall
-finite Program = refl
-finite Declarations = refl
-finite Declaration = refl
-finite Inputs = refl
-finite MoreInputs = refl
-finite Ending = refl
-finite Booleans = refl
-finite MoreBooleans = refl
-finite BooleanStart = refl
-finite BooleanValue = refl
-finite Integers = refl
-finite MoreIntegers = refl
-finite IntegerStart = refl
-finite Statements = refl
-finite AfterStatement = refl
-finite NextStatement = refl
-finite Statement = refl
-finite Else = refl
-finite Cases = refl
-finite Branches = refl
-finite Target = refl
-finite Index = refl
-finite (Tier zero) = refl
-finite (Tier (suc zero)) = refl
-finite (Tier (suc (suc zero))) = refl
-finite (Tier (suc (suc (suc zero)))) = refl
-finite (Tier (suc (suc (suc (suc zero))))) = refl
-finite (Tier (suc (suc (suc (suc (suc zero)))))) = refl
-finite (Tier (suc (suc (suc (suc (suc (suc n))))))) = refl
-finite (Further zero) = refl
-finite (Further (suc zero)) = refl
-finite (Further (suc (suc zero))) = refl
-finite (Further (suc (suc (suc zero)))) = refl
-finite (Further (suc (suc (suc (suc zero))))) = refl
-finite (Further (suc (suc (suc (suc (suc zero)))))) = refl
-finite (Further (suc (suc (suc (suc (suc (suc n))))))) = refl
+finite = every-part (λ n. someSmall claims n (csml n)) refl (λ n. refl) (λ n. refl)
 
 pub passes : Passes claims csml
 passes = record { parted = parted; finite = finite }

@@ -2,6 +2,9 @@ pub mod Runs
 pub mod Signs
 pub mod Longest
 pub mod Cutting
+pub mod ScanLaws
+pub mod Numbered
+pub mod EveryPart
 pub mod Claims
 pub mod Spelled
 pub mod Checking

@@ -9,57 +9,57 @@ use Rattle.language.specs.Scan.{wordsOf}
 use Rattle.language.proofs.Texts.{wordsIn}
 
 -- what an example shows: each word's kind and place, or the place of a 4
-data Seen : Type 0 where
+pub data Seen : Type 0 where
   _at_ : Kind → ℕ → Seen
 
 infix 90 _at_
-data Shown : Type 0 where
+pub data Shown : Type 0 where
   cut : List Seen → Shown
   four : ℕ → Shown
 
-abbrev seen : List Word → List Seen
+abbrev pub seen : List Word → List Seen
 seen [] = []
 seen (w ∷ ws) = w .kind at w .place ∷ seen ws
 
-abbrev shown : Words → Shown
+abbrev pub shown : Words → Shown
 shown (words ws) = cut (seen ws)
 shown (refused e) = four e
 
-abbrev of : String → Shown
+abbrev pub of : String → Shown
 of s = shown (wordsOf (bytes s))
 
 pub record Examples : Type 0 where
   -- "`sum-5` is one name and `sum - 5` three words"
-  hyphen : of "sum-5" ≡ cut (name at 0 ∷ [])
-  apart : of "sum - 5" ≡ cut (name at 0 ∷ the "-" at 4 ∷ number at 6 ∷ [])
-  letters : of "a_b1-2 _" ≡ four 7
+  pub hyphen : of "sum-5" ≡ cut (name at 0 ∷ [])
+  pub apart : of "sum - 5" ≡ cut (name at 0 ∷ the "-" at 4 ∷ number at 6 ∷ [])
+  pub letters : of "a_b1-2 _" ≡ four 7
   -- a hyphen with neither letter nor digit behind it
-  underscore : of "a-_b" ≡ four 2
-  two-hyphens : of "a--b" ≡ cut (name at 0 ∷ the "-" at 1 ∷ the "-" at 2 ∷ name at 3 ∷ [])
-  last-hyphen : of "a-" ≡ cut (name at 0 ∷ the "-" at 1 ∷ [])
+  pub underscore : of "a-_b" ≡ four 2
+  pub two-hyphens : of "a--b" ≡ cut (name at 0 ∷ the "-" at 1 ∷ the "-" at 2 ∷ name at 3 ∷ [])
+  pub last-hyphen : of "a-" ≡ cut (name at 0 ∷ the "-" at 1 ∷ [])
   -- a reserved word is one only if the whole word is
-  longer : of "skip-1 endif-x int-3 endwhile Loop" ≡ cut (name at 0 ∷ name at 7 ∷ name at 15 ∷ name at 21 ∷ name at 30 ∷ [])
-  later : of "procedure endproc process processtype endtype compress endcompress"
+  pub longer : of "skip-1 endif-x int-3 endwhile Loop" ≡ cut (name at 0 ∷ name at 7 ∷ name at 15 ∷ name at 21 ∷ name at 30 ∷ [])
+  pub later : of "procedure endproc process processtype endtype compress endcompress"
       ≡ cut (the "procedure" at 0 ∷ the "endproc" at 10 ∷ the "process" at 18 ∷ the "processtype" at 26 ∷ the "endtype" at 38 ∷ the "compress" at 46 ∷ the "endcompress" at 55 ∷ [])
-  never-names : of "true false int" ≡ cut (the "true" at 0 ∷ the "false" at 5 ∷ the "int" at 11 ∷ [])
+  pub never-names : of "true false int" ≡ cut (the "true" at 0 ∷ the "false" at 5 ∷ the "int" at 11 ∷ [])
   -- "The longest word is taken"
-  number-first : of "5x" ≡ cut (number at 0 ∷ name at 1 ∷ [])
-  ending : of ".Hi" ≡ cut (the ".H" at 0 ∷ name at 2 ∷ [])
-  no-ending : of "a.h" ≡ four 1
-  bars : of "|||" ≡ cut (the "||" at 0 ∷ the "|" at 2 ∷ [])
-  equals : of "===" ≡ cut (the "==" at 0 ∷ the "=" at 2 ∷ [])
-  compared : of ">=<=!=:=" ≡ cut (the ">" at 0 ∷ the "=" at 1 ∷ the "<" at 2 ∷ the "=" at 3 ∷ the "!=" at 4 ∷ the ":=" at 6 ∷ [])
-  ands : of "&&!:" ≡ cut (the "&" at 0 ∷ the "&" at 1 ∷ the "!" at 2 ∷ the ":" at 3 ∷ [])
+  pub number-first : of "5x" ≡ cut (number at 0 ∷ name at 1 ∷ [])
+  pub ending : of ".Hi" ≡ cut (the ".H" at 0 ∷ name at 2 ∷ [])
+  pub no-ending : of "a.h" ≡ four 1
+  pub bars : of "|||" ≡ cut (the "||" at 0 ∷ the "|" at 2 ∷ [])
+  pub equals : of "===" ≡ cut (the "==" at 0 ∷ the "=" at 2 ∷ [])
+  pub compared : of ">=<=!=:=" ≡ cut (the ">" at 0 ∷ the "=" at 1 ∷ the "<" at 2 ∷ the "=" at 3 ∷ the "!=" at 4 ∷ the ":=" at 6 ∷ [])
+  pub ands : of "&&!:" ≡ cut (the "&" at 0 ∷ the "&" at 1 ∷ the "!" at 2 ∷ the ":" at 3 ∷ [])
   -- "1 to 16 bytes", "at most 65,535"
-  sixteen : of "abcdefghijklmnop" ≡ cut (name at 0 ∷ [])
-  seventeen : of " abcdefghijklmnopq" ≡ four 1
-  most : of "65535 0065535" ≡ cut (number at 0 ∷ number at 6 ∷ [])
-  one-more : of "1 65536" ≡ four 2
+  pub sixteen : of "abcdefghijklmnop" ≡ cut (name at 0 ∷ [])
+  pub seventeen : of " abcdefghijklmnopq" ≡ four 1
+  pub most : of "65535 0065535" ≡ cut (number at 0 ∷ number at 6 ∷ [])
+  pub one-more : of "1 65536" ≡ four 2
   -- bytes that start no word
-  nul : of "a \0" ≡ four 2
-  form-feed : of "\u{c}" ≡ four 0
-  high : shown (wordsOf (97 ∷ 128 ∷ [])) ≡ four 1
-  blanks : of " \t\n\r" ≡ cut []
+  pub nul : of "a \0" ≡ four 2
+  pub form-feed : of "\u{c}" ≡ four 0
+  pub high : shown (wordsOf (97 ∷ 128 ∷ [])) ≡ four 1
+  pub blanks : of " \t\n\r" ≡ cut []
 
 pub examples : Examples
 unfolding wordsIn

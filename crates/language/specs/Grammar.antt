@@ -16,9 +16,11 @@ pub data Part : Type 0 where
   Statements AfterStatement NextStatement Statement Else Cases Branches Target Index : Part
   Tier Further : ℕ → Part
 
+-- an expression may have every operator
 abbrev pub Expression : Part
 Expression = Tier 0
 
+-- a row of this grammar, and how it is written
 abbrev pub Line : Type 0
 Line = Row Kind Part
 
@@ -139,11 +141,13 @@ csml (Further n) = further n (getElem? binding n)
 abbrev pub mostLevels : ℕ
 mostLevels = 32
 
+-- where reading starts
 abbrev pub wholeProgram : Line
 wholeProgram = Program ▹ ε
 
 -- ---- what is said of a text
 
+-- the grammar looks at the kinds of words alone
 abbrev pub kinds : List Word → List Kind
 kinds ws = map (λ w. w .kind) ws
 

@@ -1,5 +1,6 @@
 pub mod Words
 pub mod Scan
+pub mod Numbers
 pub mod Grammar
 pub mod Trees
 pub mod Texts

@@ -20,6 +20,7 @@ begins l [] = true
 begins [] (x ∷ w) = false
 begins (y ∷ l) (x ∷ w) = eqb x y && begins l w
 
+-- how many bytes the sign has that was found
 unfoldable pub lengthOf : Option String → ℕ
 lengthOf none = 0
 lengthOf (some s) = length (bytes s)
@@ -37,6 +38,7 @@ pub data Next : Type 0 where
   stops : ℕ → Next
   over : Next
 
+-- what stands at a place behind blanks, where l is the text from there on
 unfoldable pub nextAt : ℕ → List ℕ → Next
 nextAt at [] = over
 nextAt at (c ∷ l) =

@@ -27,12 +27,15 @@ blank c = eqb c 32 || (eqb c 9 || (eqb c 10 || eqb c 13))
 unfoldable pub letter : ℕ → Bool
 letter c = (leb 65 c && leb c 90) || (leb 97 c && leb c 122)
 
+-- a digit
 unfoldable pub digit : ℕ → Bool
 digit c = leb 48 c && leb c 57
 
+-- "underscores"
 abbrev pub underscore : ℕ
 underscore = 95
 
+-- "a hyphen"
 abbrev pub hyphen : ℕ
 hyphen = 45
 
@@ -40,10 +43,11 @@ hyphen = 45
 unfoldable pub inName : ℕ → ℕ → Bool
 inName c d = letter c || (digit c || (eqb c underscore || (eqb c hyphen && (letter d || digit d))))
 
--- the same form for the other runs of bytes, which look at no next byte
+-- the same form for a run of digits, which looks at no next byte
 abbrev pub inNumber : ℕ → ℕ → Bool
 inNumber c d = digit c
 
+-- .. and of blanks
 abbrev pub inBlanks : ℕ → ℕ → Bool
 inBlanks c d = blank c
 
@@ -72,7 +76,7 @@ abbrev pub Among : String → List String → Type 0
 Among s [] = ⊥
 Among s (t ∷ ss) = (s ≡ t) ⊎ Among s ss
 
--- what a word can be, before its size is looked at: "a name is a letter, then ..", a number is digits, a sign is one of the list
+-- what a word can be, before its size is looked at: "a name is a letter, then .." (a reserved word has that form too), a number is digits, a sign is one of the list
 pub data IsWord : List ℕ → Type 0 where
   aName : (c : ℕ) (w : List ℕ) → letter c ≡ true → Run inName w → IsWord (c ∷ w)
   aNumber : (c : ℕ) (w : List ℕ) → digit c ≡ true → Run inNumber w → IsWord (c ∷ w)
@@ -101,11 +105,12 @@ unfoldable pub firstOf : (List ℕ → Bool) → List String → Option String
 firstOf test [] = none
 firstOf test (s ∷ ss) = elim (test (bytes s)) [ true ↦ some s | false ↦ firstOf test ss ]
 
+-- the kind of a spelling that was found; k where none was
 unfoldable pub spelled : Option String → Kind → Kind
 spelled (some s) k = the s
 spelled none k = k
 
--- the kind of a word, by its bytes
+-- the kind of a word, by its bytes: a spelling of the lists is that word, "case-sensitive", and anything else a number or a name
 unfoldable pub kindOf : List ℕ → Kind
 kindOf w = spelled (firstOf (same w) (signs ++ reserved)) (cond (digit (getD w 0 0)) number name)
 
@@ -122,6 +127,7 @@ unfoldable pub valueFrom : ℕ → List ℕ → ℕ
 valueFrom v [] = v
 valueFrom v (c ∷ w) = valueFrom (v * 10 + (c - 48)) w
 
+-- "a number's value"; leading zeros are free
 abbrev pub valueOf : List ℕ → ℕ
 valueOf w = valueFrom 0 w
 
@@ -144,10 +150,12 @@ pub data Words : Type 0 where
   words : List Word → Words
   refused : ℕ → Words
 
+-- a word put before the rest
 abbrev pub before : Word → Words → Words
 before w (words ws) = words (w ∷ ws)
 before w (refused e) = refused e
 
+-- the word of these bytes at a place
 abbrev pub wordAt : ℕ → List ℕ → Word
 wordAt at w = record { kind = kindOf w; place = at; bytes = w }
 

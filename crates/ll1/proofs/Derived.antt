@@ -6,7 +6,8 @@ use mathlib.Core.List.{List, [], _∷_, _++_}
 use mathlib.Core.Option.{Option, none, some}
 use Prim.Native.Nat.{ℕ, zero, suc}
 use Rattle.ll1.specs.Grammar.{word, part, In, Out, Row, Grammar, rowAt, stop, reads, rule, into, out, Sentence}
-use Rattle.ll1.proofs.Tests.{Claims, pick, Passes, look}
+use Rattle.ll1.specs.Goes.{look}
+use Rattle.ll1.proofs.Tests.{Claims, pick, Passes}
 use Rattle.ll1.proofs.Forced.{picked-at}
 use Rattle.ll1.proofs.Parser.{Answer, ok, bad, deep, tired, after, barred, run}
 

@@ -10,7 +10,8 @@ use lib.ListN.{length}
 use lib.Dec.{ltb}
 use borrow.Author.Tests.{ltb-true}
 use Rattle.ll1.specs.Grammar.{word, part, In, Out, Row, Grammar, rowAt}
-use Rattle.ll1.proofs.Tests.{Claims, emptyRow, falls, pick, Passes, look}
+use Rattle.ll1.specs.Goes.{look}
+use Rattle.ll1.proofs.Tests.{Claims, emptyRow, falls, pick, Passes}
 use Rattle.ll1.proofs.Sets.{and-left, and-right}
 use Rattle.ll1.proofs.Forced.{keeps-at, picked-at}
 use Rattle.ll1.proofs.Parser.{Answer, ok, bad, deep, tired, after, barred, run}

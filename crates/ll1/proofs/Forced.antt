@@ -10,7 +10,8 @@ use native.Mathlib.Nat.{add-zero, add-suc, suc-add, zero-add}
 use native.Mathlib.Omega.{arith}
 use lib.ListN.{length, getD}
 use Rattle.ll1.specs.Grammar.{word, part, In, Out, Row, Grammar, rowAt, Reads, stop, reads, rule, into, out}
-use Rattle.ll1.proofs.Tests.{_implies_, Claims, has, within, apart, firsts, emptyRow, beginRow, opensWord, follows, falls, keeps, differs, allDiffer, pick, Passes, look}
+use Rattle.ll1.specs.Goes.{look}
+use Rattle.ll1.proofs.Tests.{_implies_, Claims, has, within, apart, firsts, emptyRow, beginRow, opensWord, follows, falls, keeps, differs, allDiffer, pick, Passes}
 use Rattle.ll1.proofs.Sets.{clash, and-left, and-right, has-self, has-left, has-right, within-has, apart-not, begin-append, begin-mono, begin-cases}
 
 -- what a test of a row says

@@ -8,3 +8,8 @@ pub mod Answered
 pub mod Derived
 pub mod OneValue
 pub mod Parsed
+pub mod Then
+pub mod Steps
+pub mod Turns
+pub mod Served
+pub mod Reading

@@ -8,7 +8,8 @@ use Prim.Native.Nat.{ℕ, zero, suc, _<_}
 use native.Mathlib.Omega.{arith}
 use lib.ListN.{length}
 use Rattle.ll1.specs.Grammar.{word, part, In, Out, Row, Grammar, rowAt, Reads, stop, reads, rule, into, out, Sentence, Begins}
-use Rattle.ll1.proofs.Tests.{Claims, pick, Passes, look, opensWord}
+use Rattle.ll1.specs.Goes.{look}
+use Rattle.ll1.proofs.Tests.{Claims, pick, Passes, opensWord}
 use Rattle.ll1.proofs.Sets.{clash}
 use Rattle.ll1.proofs.Forced.{Good, Live, live-end, injective, good-rule, forced, picked-at}
 

@@ -119,8 +119,3 @@ module _ {K P : Type 0} (C : Claims K P) where
   pub record Passes (G : Grammar K P) : Type 0 where
     pub parted : (n : P) → allDiffer n (G n) ≡ true
     pub finite : (n : P) → someSmall n (G n) ≡ true
-
--- the next word, none at the end
-abbrev pub look : {K : Type 0} → List K → Option K
-look [] = none
-look (t ∷ w) = some t

@@ -1,2 +1,4 @@
 pub mod Grammar
 pub mod Values
+pub mod Goes
+pub mod Rows

@@ -1,0 +1,1 @@
+// The grammar in bytes, for a reader of tables: definitions in specs/, laws in proofs/. No code.
