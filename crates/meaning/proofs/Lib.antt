@@ -5,4 +5,5 @@ pub mod Loops
 pub mod Switch
 pub mod Delay
 pub mod States
+pub mod Faults
 pub mod Trials
