@@ -1,4 +1,5 @@
 pub mod Bits
+pub mod LowBits
 pub mod Worst
 pub mod Parallel
 pub mod Loops
