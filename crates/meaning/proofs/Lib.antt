@@ -1,5 +1,7 @@
 pub mod Bits
 pub mod LowBits
+pub mod Tries
+pub mod Kept
 pub mod Worst
 pub mod Parallel
 pub mod Loops
