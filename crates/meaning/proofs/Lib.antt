@@ -2,6 +2,7 @@ pub mod Bits
 pub mod LowBits
 pub mod Tries
 pub mod Kept
+pub mod Tried
 pub mod Worst
 pub mod Parallel
 pub mod Loops
