@@ -17,6 +17,7 @@ use Rattle.meaning.specs.Jumps.{jumpFaults}
 use Rattle.meaning.specs.Sizes.{sizeFaults}
 use Rattle.meaning.specs.Worst.{worstFaults}
 use Rattle.meaning.specs.Faults.{Fault, least, earliest, faultOf}
+use Rattle.meaning.proofs.Lists.{not-empty, both-empty}
 
 abbrev pub fault : ℕ → ℕ → Fault
 fault number place = record { number = number; place = place }
@@ -146,3 +147,31 @@ told-once l (some f) (some g) t u = ap some (wins-both f g (t .1 g (u .0)) (u .1
 -- no fault is told exactly where there is none, and a fault exactly where it wins
 pub told-exactly : (s : Source) (o : Option Fault) → (faultOf s ≡ o) ↔ Told (faults s) o
 told-exactly s o = (λ e. rw e at (told s), λ t. told-once (faults s) (faultOf s) o (told s) t)
+
+-- ---- a source without faults
+
+pub record Faultless (s : Source) : Type 0 where
+  pub names : nameFaults s ≡ []
+  pub kinds : kindFaults s ≡ []
+  pub jumps : jumpFaults s ≡ []
+  pub sizes : sizeFaults s ≡ []
+  pub worst : worstFaults s ≡ []
+
+each-none : (n : ℕ) (ps : List ℕ) → each n ps ≡ [] → ps ≡ []
+each-none n [] e = refl
+each-none n (p ∷ ps) e = absurd (not-empty e)
+
+split-none : (n : ℕ) (ps : List ℕ) (l : List Fault) → each n ps ++ l ≡ [] → (ps ≡ []) × (l ≡ [])
+split-none n ps l e = let (p, q) = both-empty (each n ps) l e in (each-none n ps p, q)
+
+faultless : (s : Source) → faults s ≡ [] → Faultless s
+faultless s e =
+    let (n, e7) = split-none 6 (nameFaults s) _ e in
+    let (k, e8) = split-none 7 (kindFaults s) _ e7 in
+    let (j, e9) = split-none 8 (jumpFaults s) _ e8 in
+    let (z, e10) = split-none 9 (sizeFaults s) _ e9 in
+    record { names = n; kinds = k; jumps = j; sizes = z; worst = split-none 10 (worstFaults s) [] e10 .0 }
+
+pub none-exactly : (s : Source) → (faultOf s ≡ none) ↔ Faultless s
+unfolding faultOf
+none-exactly s = (λ e. faultless s (told-exactly s none .0 e), λ f. rw (f .names, f .kinds, f .jumps, f .sizes, f .worst))

@@ -1,8 +1,12 @@
+pub mod Lists
 pub mod Bits
 pub mod LowBits
 pub mod Tries
 pub mod Kept
 pub mod Tried
+pub mod Apart
+pub mod Word
+pub mod Declared
 pub mod Worst
 pub mod Parallel
 pub mod Loops
@@ -10,4 +14,5 @@ pub mod Switch
 pub mod Delay
 pub mod States
 pub mod Faults
+pub mod Fits
 pub mod Trials

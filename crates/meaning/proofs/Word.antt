@@ -1,0 +1,65 @@
+-- The value word stays below 2 ^ k where every bit that is changed lies below k.
+-- Assumes nothing.
+use mathlib.Core.Path.{_≡_, refl, sym, ap, _∙_}
+use mathlib.Core.Bool.{Bool, true, false}
+use mathlib.Core.List.{List, [], _∷_, List·Memᴰ, List·Memᴰ·head, List·Memᴰ·tail}
+use Prim.Native.Nat.{ℕ, _+_, _*_, _^_, _≤_, _<_}
+use native.Mathlib.Nat.{lt-of-lt-of-le, lt-of-le-of-lt}
+use native.Mathlib.Omega.{arith}
+use lib.Bits.{bitAnd, bitOr, or-lt, xor-lt, and-le-l}
+use lib.Pow.{pow-pos, pow-lt, pow-mono, shl-lt}
+use Rattle.meaning.specs.Tree.{Change, Target, Expr, Stmts}
+use Rattle.meaning.specs.Numbers.{Variable, input, boolean, integer, Reads, bitOf, lowBits, wholeOf, value}
+use Rattle.meaning.specs.Tries.{Tries, noTries, without, tryBit, changed, bitAt, changeTries, assignTries, allOnes, allZeros, agreed, taken}
+use Rattle.meaning.specs.Clock.{Entry, Outcome, finishes, jumps, waits, resumeAll}
+use Rattle.meaning.specs.States.{State, Program, settled, stepState}
+use Rattle.meaning.proofs.LowBits.{low-lt}
+use Rattle.meaning.proofs.Tried.{WithinAll, Tried, in-no-time, by-jump, by-wait, on-resume-all}
+
+-- the bit that a change sets, and all bits of an integer, lie below k
+abbrev pub ChangedBelow : ℕ → Target Variable → Type 0
+ChangedBelow k t = bitAt t < k
+
+abbrev pub AssignedBelow : ℕ → Variable → Type 0
+AssignedBelow k (input i) = Unit {0}
+AssignedBelow k (boolean j) = Unit {0}
+AssignedBelow k (integer low width) = low + width ≤ k
+
+without-lt : (k a b : ℕ) → a < 2 ^ k → without a b < 2 ^ k
+without-lt k a b h = xor-lt k a (bitAnd a b) h (lt-of-le-of-lt (and-le-l a b) h)
+
+module _ (k : ℕ) where
+  abbrev Below : Tries → Type 0
+  Below t = t .ones < 2 ^ k
+
+  bit-lt : (j : ℕ) (b : Bool) → j < k → Below (tryBit j b)
+  bit-lt j true h = pow-lt h
+  bit-lt j false h = pow-pos k
+
+  assign-lt : (v : Variable) (e : Expr Variable) (r : Reads) → AssignedBelow k v → Below (assignTries v e r)
+  assign-lt (input i) e r h = pow-pos k
+  assign-lt (boolean j) e r h = pow-pos k
+  assign-lt (integer low width) e r h =
+      lt-of-lt-of-le (shl-lt width low (low-lt width (wholeOf (value e r)))) (pow-mono {i = width + low} {j = k} (omega arith))
+
+  ones-lt : (ts : List Tries) → ((t : Tries) → List·Memᴰ t ts → Below t) → allOnes ts < 2 ^ k
+  unfolding allOnes
+  ones-lt [] h = pow-pos k
+  ones-lt (t ∷ ts) h = or-lt k (t .ones) (allOnes ts) (h t (List·Memᴰ·head refl)) (ones-lt ts (λ u m. h u (List·Memᴰ·tail m)))
+
+  settled-lt : {o : Outcome} (word : ℕ) → Tried Below o → word < 2 ^ k → settled o word .word < 2 ^ k
+  settled-lt word in-no-time h = h
+  settled-lt word by-jump h = h
+  settled-lt word (by-wait {t = t} p) h = without-lt k (bitOr word (t .ones)) (t .zeros) (or-lt k word (t .ones) h p)
+
+  pub word-below : (p : Program) (s : State) (i : ℕ) → WithinAll (p .body) (ChangedBelow k) (AssignedBelow k)
+      → s .word < 2 ^ k → stepState p s i .word < 2 ^ k
+  unfolding stepState
+  word-below p s i w h =
+      settled-lt (s .word)
+      (on-resume-all (ChangedBelow k) (AssignedBelow k) Below (pow-pos k)
+      (λ c t r q. bit-lt (bitAt t) (changed c (bitOf (r .word) (bitAt t))) q)
+      assign-lt
+      (λ ts q. without-lt k (allOnes ts) (allZeros ts) (ones-lt ts q))
+      (p .body) (s .entries) (record { word = s .word; inputs = i }) w)
+      h
