@@ -1,6 +1,6 @@
--- Of a source without faults, the value word of every state lies below 2 ^ the number of its non-input bits, and those are 32 at most.
+-- Of a source without faults: no jump leaves the program, and the value word lies below 2 ^ the number of its non-input bits, 32 at most.
 -- Assumes nothing.
-use mathlib.Core.Path.{_≡_, refl, sym, ap, _∙_}
+use mathlib.Core.Path.{_≡_, refl, sym, ap, _∙_, subst}
 use mathlib.Core.Bool.{Bool, true, false}
 use mathlib.Core.List.{List, [], _∷_, _++_, append-assoc}
 use mathlib.Core.Option.{Option, none, some}
@@ -12,19 +12,21 @@ use lib.ListN.{length, drop}
 use Rattle.file_law.specs.Table.{mostInputs, mostOutputs}
 use Rattle.meaning.specs.Tree.{Name, Target, whole, part, Head, Stmt, skip, delay, change, assign, choice, while, loop, exit, break, switch, parallel, Stmts, end, _⨾_, Cases, default, case, Branches, _∥_}
 use Rattle.meaning.specs.Tree as tree
-use Rattle.meaning.specs.Numbers.{Variable, input, boolean, integer, opposite}
+use Rattle.meaning.specs.Numbers.{Variable, Reads, input, boolean, integer, opposite}
 use Rattle.meaning.specs.Tries.{bitAt}
+use Rattle.meaning.specs.Clock.{Entry, Jump, out, off, jumps, resumeAll}
 use Rattle.meaning.specs.States.{State, startState, stepState}
 use Rattle.meaning.specs.Declared.{Declaration, Source, lookUp}
 use Rattle.meaning.specs.Items.{Item, items, itemsAll, itemsCases, itemsEach}
 use Rattle.meaning.specs.Checked.{known, variableOf, targeted, checked, checkedAll, checkedCases, checkedEach, programOf}
 use Rattle.meaning.specs.Names.{gather, when}
 use Rattle.meaning.specs.Kinds.{changeable, hasBit, targetKind, itemKind, kindFaults}
+use Rattle.meaning.specs.Jumps.{jumpIn, jumpAll, jumpCases, jumpEach}
 use Rattle.meaning.specs.Sizes.{mostBits, inputPlaces, outputPlaces, bitsFrom, sizeFaults}
 use Rattle.meaning.specs.Faults.{faultOf}
-use Rattle.meaning.proofs.Tried.{Within, WithinAll, WithinCases, WithinEach}
-use Rattle.meaning.proofs.Word.{ChangedBelow, AssignedBelow, word-below}
-use Rattle.meaning.proofs.Declared.{bitCount, Below, Found, found-below, initial-below, when-none, bits-most}
+use Rattle.meaning.proofs.Tried.{Within, WithinAll, WithinCases, WithinEach, Tried, by-exit, by-break}
+use Rattle.meaning.proofs.Word.{ChangedBelow, AssignedBelow, Below, tried-below, word-below}
+use Rattle.meaning.proofs.Declared.{bitCount, Found, found-below, initial-below, when-none, bits-most}
 use Rattle.meaning.proofs.Faults.{none-exactly}
 use Rattle.meaning.proofs.Lists.{not-empty, both-empty}
 
@@ -75,53 +77,67 @@ module _ (ds : List Declaration) where
   target-below h (part v j) e = part-below (bitCount ds) (lookUp ds (v .bytes)) j (v .place) (found-below ds (v .bytes)) e
 
   mutual
-    unfolding items checked Within
+    unfolding items checked Within jumpIn
 
-    within : (s : Stmt Name) (n : ℕ) → Clean (items s)
-        → Within (checked s (variableOf ds) n) (ChangedBelow (bitCount ds)) (AssignedBelow (bitCount ds))
-    within (skip h) n e = tt
-    within (delay h p d) n e = tt
-    within (change h c t) n e = target-below h t (clean-cons _ [] e .0)
-    within (assign h v x) n e = assign-below (bitCount ds) (lookUp ds (v .bytes)) (found-below ds (v .bytes))
-    within (choice h x a b) n e =
+    within : (s : Stmt Name) (n : ℕ) (l k : Bool) → Clean (items s) → jumpIn s l k ≡ []
+        → Within (checked s (variableOf ds) n) (ChangedBelow (bitCount ds)) (AssignedBelow (bitCount ds)) l k
+    within (skip h) n l k e j = tt
+    within (delay h p d) n l k e j = tt
+    within (change h c t) n l k e j = target-below h t (clean-cons _ [] e .0)
+    within (assign h v x) n l k e j = assign-below (bitCount ds) (lookUp ds (v .bytes)) (found-below ds (v .bytes))
+    within (choice h x a b) n l k e j =
         let (p, q) = clean-both (itemsAll a) (itemsAll b) (clean-cons _ _ e .1) in
-        (within-all a (suc n) p, within-all b (suc n + length (itemsAll a)) q)
-    within (while h x b) n e = within-all b (suc n) (clean-cons _ _ e .1)
-    within (loop h b) n e = within-all b (suc n) (clean-cons _ _ e .1)
-    within (exit h) n e = tt
-    within (break h) n e = tt
-    within (switch h cs) n e = within-cases cs (suc n) (clean-cons _ _ e .1)
-    within (parallel h bs) n e = within-each bs (suc n) (clean-cons _ _ e .1)
+        let (i, o) = both-empty (jumpAll a l k) (jumpAll b l k) j in
+        (within-all a (suc n) l k p i, within-all b (suc n + length (itemsAll a)) l k q o)
+    within (while h x b) n l k e j = within-all b (suc n) true k (clean-cons _ _ e .1) j
+    within (loop h b) n l k e j = within-all b (suc n) true k (clean-cons _ _ e .1) j
+    within (exit h) n l k e j = opposite-false l (when-none (opposite l) (h .place) j)
+    within (break h) n l k e j = opposite-false k (when-none (opposite k) (h .place) j)
+    within (switch h cs) n l k e j = within-cases cs (suc n) l true (clean-cons _ _ e .1) j
+    within (parallel h bs) n l k e j = within-each bs (suc n) l true (clean-cons _ _ e .1) j
 
-    within-all : (ss : Stmts Name) (n : ℕ) → Clean (itemsAll ss)
-        → WithinAll (checkedAll ss (variableOf ds) n) (ChangedBelow (bitCount ds)) (AssignedBelow (bitCount ds))
-    within-all end n e = tt
-    within-all (s ⨾ ss) n e =
+    within-all : (ss : Stmts Name) (n : ℕ) (l k : Bool) → Clean (itemsAll ss) → jumpAll ss l k ≡ []
+        → WithinAll (checkedAll ss (variableOf ds) n) (ChangedBelow (bitCount ds)) (AssignedBelow (bitCount ds)) l k
+    within-all end n l k e j = tt
+    within-all (s ⨾ ss) n l k e j =
         let (p, q) = clean-both (items s) (itemsAll ss) e in
-        (within s n p, within-all ss (n + length (items s)) q)
+        let (i, o) = both-empty (jumpIn s l k) (jumpAll ss l k) j in
+        (within s n l k p i, within-all ss (n + length (items s)) l k q o)
 
-    within-cases : (cs : Cases Name) (n : ℕ) → Clean (itemsCases cs)
-        → WithinCases (checkedCases cs (variableOf ds) n) (ChangedBelow (bitCount ds)) (AssignedBelow (bitCount ds))
-    within-cases (default d) n e = within-all d n e
-    within-cases (case h x b cs) n e =
+    within-cases : (cs : Cases Name) (n : ℕ) (l k : Bool) → Clean (itemsCases cs) → jumpCases cs l k ≡ []
+        → WithinCases (checkedCases cs (variableOf ds) n) (ChangedBelow (bitCount ds)) (AssignedBelow (bitCount ds)) l k
+    within-cases (default d) n l k e j = within-all d n l k e j
+    within-cases (case h x b cs) n l k e j =
         let (p, q) = clean-both (itemsAll b) (itemsCases cs) (clean-cons _ _ e .1) in
-        (within-all b (suc n) p, within-cases cs (suc n + length (itemsAll b)) q)
+        let (i, o) = both-empty (jumpAll b l k) (jumpCases cs l k) j in
+        (within-all b (suc n) l k p i, within-cases cs (suc n + length (itemsAll b)) l k q o)
 
-    within-each : (bs : Branches Name) (n : ℕ) → Clean (itemsEach bs)
-        → WithinEach (checkedEach bs (variableOf ds) n) (ChangedBelow (bitCount ds)) (AssignedBelow (bitCount ds))
-    within-each tree.none n e = tt
-    within-each (b ∥ bs) n e =
+    within-each : (bs : Branches Name) (n : ℕ) (l k : Bool) → Clean (itemsEach bs) → jumpEach bs l k ≡ []
+        → WithinEach (checkedEach bs (variableOf ds) n) (ChangedBelow (bitCount ds)) (AssignedBelow (bitCount ds)) l k
+    within-each tree.none n l k e j = tt
+    within-each (b ∥ bs) n l k e j =
         let (p, q) = clean-both (itemsAll b) (itemsEach bs) e in
-        (within-all b n p, within-each bs (n + length (itemsAll b)) q)
+        let (i, o) = both-empty (jumpAll b l k) (jumpEach bs l k) j in
+        (within-all b n l k p i, within-each bs (n + length (itemsAll b)) l k q o)
 
 -- ---- a source without faults
 
 module _ (s : Source) (good : faultOf s ≡ none) where
-  body-within : WithinAll (programOf s .body) (ChangedBelow (bitCount (s .declared))) (AssignedBelow (bitCount (s .declared)))
+  body-within : WithinAll (programOf s .body) (ChangedBelow (bitCount (s .declared))) (AssignedBelow (bitCount (s .declared))) false false
   unfolding programOf kindFaults
   body-within =
-      within-all (s .declared) (s .body) 0
+      within-all (s .declared) (s .body) 0 false false
       (both-empty (gather (itemKind (s .declared)) (itemsAll (s .body))) _ (none-exactly s .0 good .kinds) .0)
+      (none-exactly s .0 good .jumps)
+
+  -- no jump leaves the program
+  pub never-jumps : (es : List Entry) (r : Reads) (j : Jump) → resumeAll (programOf s .body) es r ≡ jumps j → ⊥
+  never-jumps es r j e =
+      no-way j (subst (Tried (Below (bitCount (s .declared))) false false) e (tried-below (bitCount (s .declared)) (programOf s) false false body-within es r))
+    where
+      no-way : (i : Jump) → Tried (Below (bitCount (s .declared))) false false (jumps i) → ⊥
+      no-way out (by-exit q) = let z : _≡_ {A = ℕ} 0 1 = cc in omega arith
+      no-way off (by-break q) = let z : _≡_ {A = ℕ} 0 1 = cc in omega arith
 
   -- "non-input bits 32"
   pub bits-fit : bitCount (s .declared) ≤ mostBits
@@ -136,4 +152,4 @@ module _ (s : Source) (good : faultOf s ≡ none) where
   start-fits = initial-below (s .declared)
 
   pub step-fits : (t : State) (i : ℕ) → t .word < 2 ^ bitCount (s .declared) → stepState (programOf s) t i .word < 2 ^ bitCount (s .declared)
-  step-fits t i h = word-below (bitCount (s .declared)) (programOf s) t i body-within h
+  step-fits t i h = word-below (bitCount (s .declared)) (programOf s) false false body-within t i h

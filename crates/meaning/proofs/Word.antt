@@ -14,7 +14,7 @@ use Rattle.meaning.specs.Tries.{Tries, noTries, without, tryBit, changed
 use Rattle.meaning.specs.Clock.{Entry, Outcome, finishes, jumps, waits, resumeAll}
 use Rattle.meaning.specs.States.{State, Program, settled, stepState}
 use Rattle.meaning.proofs.LowBits.{low-lt}
-use Rattle.meaning.proofs.Tried.{WithinAll, Tried, in-no-time, by-jump, by-wait, on-resume-all}
+use Rattle.meaning.proofs.Tried.{WithinAll, Tried, in-no-time, by-exit, by-break, by-wait, on-resume-all}
 
 -- the bit that a change sets, and all bits of an integer, lie below k
 abbrev pub ChangedBelow : ℕ → Target Variable → Type 0
@@ -29,7 +29,7 @@ without-lt : (k a b : ℕ) → a < 2 ^ k → without a b < 2 ^ k
 without-lt k a b h = xor-lt k a (bitAnd a b) h (lt-of-le-of-lt (and-le-l a b) h)
 
 module _ (k : ℕ) where
-  abbrev Below : Tries → Type 0
+  abbrev pub Below : Tries → Type 0
   Below t = t .ones < 2 ^ k
 
   bit-lt : (j : ℕ) (b : Bool) → j < k → Below (tryBit j b)
@@ -47,19 +47,22 @@ module _ (k : ℕ) where
   ones-lt [] h = pow-pos k
   ones-lt (t ∷ ts) h = or-lt k (t .ones) (allOnes ts) (h t (List·Memᴰ·head refl)) (ones-lt ts (λ u m. h u (List·Memᴰ·tail m)))
 
-  settled-lt : {o : Outcome} (word : ℕ) → Tried Below o → word < 2 ^ k → settled o word .word < 2 ^ k
+  settled-lt : {l b : Bool} {o : Outcome} (word : ℕ) → Tried Below l b o → word < 2 ^ k → settled o word .word < 2 ^ k
   settled-lt word in-no-time h = h
-  settled-lt word by-jump h = h
+  settled-lt word (by-exit e) h = h
+  settled-lt word (by-break e) h = h
   settled-lt word (by-wait {t = t} p) h = without-lt k (bitOr word (t .ones)) (t .zeros) (or-lt k word (t .ones) h p)
 
-  pub word-below : (p : Program) (s : State) (i : ℕ) → WithinAll (p .body) (ChangedBelow k) (AssignedBelow k)
-      → s .word < 2 ^ k → stepState p s i .word < 2 ^ k
-  unfolding stepState
-  word-below p s i w h =
-      settled-lt (s .word)
-      (on-resume-all (ChangedBelow k) (AssignedBelow k) Below (pow-pos k)
-      (λ c t r q. bit-lt (bitAt t) (changed c (bitOf (r .word) (bitAt t))) q)
+  pub tried-below : (p : Program) (l b : Bool) → WithinAll (p .body) (ChangedBelow k) (AssignedBelow k) l b
+      → (es : List Entry) (r : Reads) → Tried Below l b (resumeAll (p .body) es r)
+  tried-below p l b w es r =
+      on-resume-all (ChangedBelow k) (AssignedBelow k) Below (pow-pos k)
+      (λ c t q h. bit-lt (bitAt t) (changed c (bitOf (q .word) (bitAt t))) h)
       assign-lt
-      (λ ts q. without-lt k (allOnes ts) (allZeros ts) (ones-lt ts q))
-      (p .body) (s .entries) (record { word = s .word; inputs = i }) w)
-      h
+      (λ ts h. without-lt k (allOnes ts) (allZeros ts) (ones-lt ts h))
+      (p .body) es r w
+
+  pub word-below : (p : Program) (l b : Bool) → WithinAll (p .body) (ChangedBelow k) (AssignedBelow k) l b
+      → (s : State) (i : ℕ) → s .word < 2 ^ k → stepState p s i .word < 2 ^ k
+  unfolding stepState
+  word-below p l b w s i h = settled-lt (s .word) (tried-below p l b w (s .entries) (record { word = s .word; inputs = i })) h
