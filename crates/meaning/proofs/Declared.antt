@@ -1,15 +1,15 @@
 -- The bits of a declared variable lie below the number of non-input bits, and so does the initial word.
 -- Assumes nothing.
-use mathlib.Core.Path.{_≡_, refl, sym, ap, _∙_}
+use mathlib.Core.Path.{_≡_, refl, ap}
 use mathlib.Core.Bool.{Bool, true, false}
-use mathlib.Core.List.{List, [], _∷_, _++_}
+use mathlib.Core.List.{List, [], _∷_}
 use mathlib.Core.Option.{Option, none, some}
-use Prim.Native.Nat.{ℕ, zero, suc, _+_, _-_, _*_, _%_, _^_, _≤_, _<_}
+use Prim.Native.Nat.{ℕ, _+_, _*_, _%_, _^_, _≤_, _<_}
 use native.Mathlib.Nat.{mod-lt, le-refl, mul-le-mul-right, one-mul, zero-mul, suc-mul, zero-add, add-zero}
 use native.Mathlib.Omega.{arith}
 use borrow.Author.Tests.{ltb-false}
 use lib.Dec.{ltb}
-use lib.Pow.{pow-pos, pow-add, pow-mono}
+use lib.Pow.{pow-pos, pow-add}
 use Rattle.meaning.specs.Numbers.{Variable, input, boolean, integer, choose}
 use Rattle.meaning.specs.Declared.{Declaration, inputs, outputs, internals, integers, nameOf, sameBytes, one, outputCount, anOutput, otherBits, standsFor, lookFrom, lookUp, asBit, valueAt, initialFrom, initialWord}
 use Rattle.meaning.specs.Names.{when}

@@ -1,6 +1,6 @@
 -- A delay takes the clocks that it names.
 -- Assumes nothing.
-use mathlib.Core.List.{List, [], _∷_, _++_}
+use mathlib.Core.List.{List, _∷_, _++_}
 use Prim.Native.Nat.{ℕ, zero, suc}
 use Rattle.meaning.specs.Tree.{Head, Stmt, delay}
 use Rattle.meaning.specs.Numbers.{Variable, Reads}

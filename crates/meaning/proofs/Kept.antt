@@ -11,10 +11,10 @@ use lib.Dec.{ltb}
 use lib.IntN.{ℤ}
 use lib.Pow.{pow-pos, ones-sub-lt}
 use Rattle.meaning.specs.Numbers.{bitOf, lowBits, opposite}
-use Rattle.meaning.specs.Tries.{Tries, tryBits, taken}
+use Rattle.meaning.specs.Tries.{tryBits, taken}
 use Rattle.meaning.proofs.Bits.{bit-shifted, bit-below, bit-past, bit-turned, bit-field, same-bits}
 use Rattle.meaning.proofs.LowBits.{low-lt}
-use Rattle.meaning.proofs.Tries.{TriesOne, TriesZero, bits-apart, taken-one, taken-zero, taken-not}
+use Rattle.meaning.proofs.Tries.{bits-apart, taken-one, taken-zero, taken-not}
 
 module _ (low width v : ℕ) (fits : v < 2 ^ width) (word : ℕ) where
   kept-one : (i : ℕ) → bitOf v i ≡ true → bitOf (taken (tryBits low width v) word) (low + i) ≡ true

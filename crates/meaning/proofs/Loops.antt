@@ -1,6 +1,6 @@
 -- When a loop waits, and when it restarts.
 -- Assumes nothing.
-use mathlib.Core.Path.{_≡_, refl}
+use mathlib.Core.Path.{_≡_}
 use mathlib.Core.Bool.{true, false}
 use mathlib.Core.List.{List}
 use Rattle.meaning.specs.Tree.{Expr, Head, while, loop, Stmts}

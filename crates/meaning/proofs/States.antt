@@ -2,15 +2,15 @@
 -- Assumes nothing.
 use mathlib.Core.Path.{_≡_, refl, sym, ap, _∙_}
 use mathlib.Core.Bool.{Bool, true, false}
-use mathlib.Core.List.{List, [], _∷_, _++_}
-use Prim.Native.Nat.{ℕ, zero, suc, _+_, _≤_, min}
+use mathlib.Core.List.{List, _++_}
+use Prim.Native.Nat.{ℕ, zero, suc}
 use native.Mathlib.Nat.{min-eq-left}
 use native.Mathlib.Omega.{arith}
-use lib.ListN.{length, take, replicate, length-append, length-take, length-replicate}
+use lib.ListN.{length, replicate, length-append, length-take, length-replicate}
 use Rattle.meaning.specs.Tree.{Stmt, skip, delay, change, assign, choice, while, loop, exit, break, switch, parallel, Stmts, end, _⨾_, Cases, default, case, Branches, none, _∥_}
 use Rattle.meaning.specs.Numbers.{Variable, Reads, choose}
-use Rattle.meaning.specs.Clock.{Entry, nowhere, at, After, done, stands, Outcome, finishes, jumps, waits, someAt, inside, insideAll, insideCases, insideSome, widened, first, resume, resumeAll}
-use Rattle.meaning.specs.States.{mostActivities, State, Program, standing, startState, settled, stepState}
+use Rattle.meaning.specs.Clock.{Entry, nowhere, After, done, stands, Outcome, finishes, jumps, waits, someAt, inside, insideAll, insideCases, insideSome, widened, first, resume, resumeAll}
+use Rattle.meaning.specs.States.{State, Program, standing, startState, settled, stepState}
 
 -- ---- "eight activity places"
 

@@ -1,12 +1,12 @@
 -- Small trees, one table under one claim, each computed.
 -- Assumes nothing.
 use mathlib.Core.Path.{_≡_, refl}
-use mathlib.Core.Bool.{Bool, true, false}
+use mathlib.Core.Bool.{true, false}
 use mathlib.Core.List.{List, [], _∷_}
 use Prim.Native.Nat.{ℕ}
 use lib.IntN.{ℤ, pos, negsuc}
-use Rattle.meaning.specs.Tree.{Arithmetic, minus, quotient, remainder, greater, Expr, literal, truth, variable, arithmetic, comparison, Change, raise, lower, invert, Target, whole, Head, Stmt, skip, delay, change, assign, choice, loop, exit, break, switch, parallel, Stmts, end, _⨾_, Cases, default, case, Branches, none, _∥_}
-use Rattle.meaning.specs.Numbers.{Variable, input, boolean, integer, Reads, lowBits, wholeOf, value, holds}
+use Rattle.meaning.specs.Tree.{Arithmetic, minus, quotient, remainder, greater, Expr, literal, truth, variable, arithmetic, comparison, raise, lower, invert, Target, whole, Head, Stmt, skip, delay, change, assign, choice, loop, exit, break, switch, parallel, Stmts, end, _⨾_, default, case, none, _∥_}
+use Rattle.meaning.specs.Numbers.{Variable, input, boolean, integer, lowBits, wholeOf, value, holds}
 use Rattle.meaning.specs.Tries.{allOnes, allZeros}
 use Rattle.meaning.specs.Clock.{at, activities, someAt, inside, widened, firstJump, each, entriesOf, start, resume}
 use Rattle.meaning.specs.States.{State, Program, mostActivities, startState, stepState}
@@ -28,7 +28,7 @@ M = whole (boolean 1)
 abbrev x : Variable
 x = integer 0 3
 
--- `x - 5`, and `0 - 7` by two operators
+-- `a - b`, and an operator on `0 - 7` and on 7
 abbrev less : Expr Variable → ℕ → Expr Variable
 less a b = arithmetic minus 0 a (literal 0 b)
 
@@ -66,7 +66,7 @@ from p s (i ∷ w) = from p (stepState p s i) w
 abbrev after : Stmts Variable → ℕ → List ℕ → State
 after body word w = from (machine body word) (startState (machine body word)) w
 
--- `raise(L) || lower(L)`, .. beside an outer raise, and of three branches
+-- `raise(L) || lower(L)`
 abbrev clash : ℕ → Stmt Variable
 clash i = two i (change (n 8) raise L) (change (n 9) lower L)
 

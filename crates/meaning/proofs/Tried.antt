@@ -1,7 +1,7 @@
 -- What holds of the tries of each single statement, and passes through an agreement, holds of all that is tried in a clock;
 -- and a jump leaves only what there is to leave.
 -- Assumes nothing.
-use mathlib.Core.Path.{_≡_, refl}
+use mathlib.Core.Path.{_≡_}
 use mathlib.Core.Bool.{Bool, true, false}
 use mathlib.Core.List.{List, [], _∷_, map, List·Memᴰ, List·Memᴰ·head, List·Memᴰ·tail, List·Memᴰ·not-nil}
 use Prim.Native.Nat.{ℕ, zero, suc}
@@ -9,7 +9,7 @@ use lib.ListN.{take, drop, getD}
 use Rattle.meaning.specs.Tree.{Head, Change, Target, Expr, Stmt, skip, delay, change, assign, choice, while, loop, exit, break, switch, parallel, Stmts, end, _⨾_, Cases, default, case, Branches, none, _∥_}
 use Rattle.meaning.specs.Numbers.{Variable, Reads, choose, holds}
 use Rattle.meaning.specs.Tries.{Tries, noTries, changeTries, assignTries, agreed}
-use Rattle.meaning.specs.Clock.{Entry, nowhere, at, After, done, stands, Jump, out, off, Outcome, finishes, jumps, waits, activitiesAll, someAt, inside, insideAll, first, firstCase, andThen, caught, looped, again, delayed, leftOf, Branch, jumpOr, firstJump, each, finished, finishing, triesIn, triesOf, entriesOf, joined, start, startAll, startCases, startEach, resume, resumeAll, resumeCases, resumeEach}
+use Rattle.meaning.specs.Clock.{Entry, nowhere, After, done, stands, out, off, Outcome, finishes, jumps, waits, activitiesAll, someAt, inside, insideAll, first, firstCase, andThen, caught, looped, again, delayed, leftOf, Branch, jumpOr, firstJump, each, finished, triesIn, triesOf, joined, start, startAll, startCases, startEach, resume, resumeAll, resumeCases, resumeEach}
 
 -- every target that a statement changes is in C, and every variable that it assigns in A;
 -- an `exit` stands inside a loop (l), and a `break` inside a switch or a parallel (k)

@@ -1,17 +1,17 @@
 -- The value word stays below 2 ^ k where every bit that is changed lies below k.
 -- Assumes nothing.
-use mathlib.Core.Path.{_≡_, refl, sym, ap, _∙_}
+use mathlib.Core.Path.{refl}
 use mathlib.Core.Bool.{Bool, true, false}
 use mathlib.Core.List.{List, [], _∷_, List·Memᴰ, List·Memᴰ·head, List·Memᴰ·tail}
-use Prim.Native.Nat.{ℕ, _+_, _*_, _^_, _≤_, _<_}
+use Prim.Native.Nat.{ℕ, _+_, _^_, _≤_, _<_}
 use native.Mathlib.Nat.{lt-of-lt-of-le, lt-of-le-of-lt}
 use native.Mathlib.Omega.{arith}
 use lib.Bits.{bitAnd, bitOr, or-lt, xor-lt, and-le-l}
 use lib.Pow.{pow-pos, pow-lt, pow-mono, shl-lt}
-use Rattle.meaning.specs.Tree.{Change, Target, Expr, Stmts}
-use Rattle.meaning.specs.Numbers.{Variable, input, boolean, integer, Reads, bitOf, lowBits, wholeOf, value}
-use Rattle.meaning.specs.Tries.{Tries, noTries, without, tryBit, changed, bitAt, changeTries, assignTries, allOnes, allZeros, agreed, taken}
-use Rattle.meaning.specs.Clock.{Entry, Outcome, finishes, jumps, waits, resumeAll}
+use Rattle.meaning.specs.Tree.{Target, Expr}
+use Rattle.meaning.specs.Numbers.{Variable, input, boolean, integer, Reads, bitOf, wholeOf, value}
+use Rattle.meaning.specs.Tries.{Tries, without, tryBit, changed, bitAt, assignTries, allOnes, allZeros}
+use Rattle.meaning.specs.Clock.{Entry, Outcome, resumeAll}
 use Rattle.meaning.specs.States.{State, Program, settled, stepState}
 use Rattle.meaning.proofs.LowBits.{low-lt}
 use Rattle.meaning.proofs.Tried.{WithinAll, Tried, in-no-time, by-exit, by-break, by-wait, on-resume-all}

@@ -1,17 +1,17 @@
 -- A value never exceeds its worst size.
 -- Assumes nothing.
-use mathlib.Core.Path.{_≡_, refl, sym, ap, _∙_}
+use mathlib.Core.Path.{_≡_, refl}
 use mathlib.Core.Bool.{Bool, true, false, cond}
 use mathlib.Core.Option.{Option, none, some}
-use Prim.Native.Nat.{ℕ, zero, suc, _+_, _-_, _*_, _/_, _%_, _≤_, _<_, _^_}
+use Prim.Native.Nat.{ℕ, zero, suc, _+_, _*_, _/_, _%_, _≤_, _^_}
 use native.Mathlib.Nat.{div-le-self, mod-le, mod-lt, le-refl, le-trans, mul-le-mul}
 use native.Mathlib.Omega.{arith}
 use lib.Dec.{ltb}
 use lib.IntN.{ℤ, pos, negsuc, negℤ, _+ℤ_, _-ℤ_, _*ℤ_, natAbs}
 use lib.Pow.{pow-pos, le-ones}
-use lib.Signed.{quotZ, remZ}
+use lib.Signed.{remZ}
 use Rattle.meaning.specs.Tree.{Name, Arithmetic, plus, minus, times, quotient, remainder, Expr, literal, truth, variable, bit, not, int, arithmetic, comparison, logic}
-use Rattle.meaning.specs.Numbers.{Variable, input, boolean, integer, Reads, over, rest, Value, whole, bool, wholeOf, boolOf, compute, asNumber, read, readBit, value}
+use Rattle.meaning.specs.Numbers.{Variable, input, boolean, integer, Reads, over, rest, wholeOf, boolOf, compute, asNumber, read, readBit, value}
 use Rattle.meaning.specs.Checked.{known, resolved}
 use Rattle.meaning.specs.Worst.{variableWorst, combined, worst}
 
