@@ -2,7 +2,7 @@
 -- Assumes nothing.
 use mathlib.Core.Path.{_≡_, refl, sym, ap, _∙_, subst}
 use mathlib.Core.Bool.{Bool, true, false}
-use mathlib.Core.List.{List, [], _∷_, _++_, append-assoc}
+use mathlib.Core.List.{List, [], _∷_, _++_}
 use mathlib.Core.Option.{Option, none, some}
 use Prim.Native.Nat.{ℕ, suc, _+_, _^_, _≤_, _<_}
 use native.Mathlib.Omega.{arith}
@@ -28,12 +28,7 @@ use Rattle.meaning.proofs.Tried.{Within, WithinAll, WithinCases, Within
 use Rattle.meaning.proofs.Word.{ChangedBelow, AssignedBelow, Below, tried-below, word-below}
 use Rattle.meaning.proofs.Declared.{bitCount, Found, found-below, initial-below, when-none, bits-most}
 use Rattle.meaning.proofs.Faults.{none-exactly}
-use Rattle.meaning.proofs.Lists.{not-empty, both-empty}
-
-gather-append : {A B : Type 0} (f : A → List B) (a b : List A) → gather f (a ++ b) ≡ gather f a ++ gather f b
-unfolding gather
-gather-append f [] b = refl
-gather-append f (x ∷ a) b = ap (λ l. f x ++ l) (gather-append f a b) ∙ sym (append-assoc (f x) (gather f a) (gather f b))
+use Rattle.meaning.proofs.Lists.{not-empty, both-empty, none-both, none-cons}
 
 opposite-false : (t : Bool) → opposite t ≡ false → t ≡ true
 opposite-false true e = refl
@@ -65,13 +60,6 @@ module _ (ds : List Declaration) where
   abbrev Clean : List Item → Type 0
   Clean is = gather (itemKind ds) is ≡ []
 
-  clean-both : (a b : List Item) → Clean (a ++ b) → Clean a × Clean b
-  clean-both a b e = both-empty (gather (itemKind ds) a) (gather (itemKind ds) b) (sym (gather-append (itemKind ds) a b) ∙ e)
-
-  clean-cons : (i : Item) (is : List Item) → Clean (i ∷ is) → (itemKind ds i ≡ []) × Clean is
-  unfolding gather
-  clean-cons i is e = both-empty (itemKind ds i) (gather (itemKind ds) is) e
-
   target-below : (h : Head) (t : Target Name) → targetKind ds h t ≡ [] → ChangedBelow (bitCount ds) (targeted t (variableOf ds))
   target-below h (whole v) e = change-below (bitCount ds) (lookUp ds (v .bytes)) (h .place) (found-below ds (v .bytes)) e
   target-below h (part v j) e = part-below (bitCount ds) (lookUp ds (v .bytes)) j (v .place) (found-below ds (v .bytes)) e
@@ -83,24 +71,24 @@ module _ (ds : List Declaration) where
         → Within (checked s (variableOf ds) n) (ChangedBelow (bitCount ds)) (AssignedBelow (bitCount ds)) l k
     within (skip h) n l k e j = tt
     within (delay h p d) n l k e j = tt
-    within (change h c t) n l k e j = target-below h t (clean-cons _ [] e .0)
+    within (change h c t) n l k e j = target-below h t (none-cons (itemKind ds) _ [] e .0)
     within (assign h v x) n l k e j = assign-below (bitCount ds) (lookUp ds (v .bytes)) (found-below ds (v .bytes))
     within (choice h x a b) n l k e j =
-        let (p, q) = clean-both (itemsAll a) (itemsAll b) (clean-cons _ _ e .1) in
+        let (p, q) = none-both (itemKind ds) (itemsAll a) (itemsAll b) (none-cons (itemKind ds) _ _ e .1) in
         let (i, o) = both-empty (jumpAll a l k) (jumpAll b l k) j in
         (within-all a (suc n) l k p i, within-all b (suc n + length (itemsAll a)) l k q o)
-    within (while h x b) n l k e j = within-all b (suc n) true k (clean-cons _ _ e .1) j
-    within (loop h b) n l k e j = within-all b (suc n) true k (clean-cons _ _ e .1) j
+    within (while h x b) n l k e j = within-all b (suc n) true k (none-cons (itemKind ds) _ _ e .1) j
+    within (loop h b) n l k e j = within-all b (suc n) true k (none-cons (itemKind ds) _ _ e .1) j
     within (exit h) n l k e j = opposite-false l (when-none (opposite l) (h .place) j)
     within (break h) n l k e j = opposite-false k (when-none (opposite k) (h .place) j)
-    within (switch h cs) n l k e j = within-cases cs (suc n) l true (clean-cons _ _ e .1) j
-    within (parallel h bs) n l k e j = within-each bs (suc n) l true (clean-cons _ _ e .1) j
+    within (switch h cs) n l k e j = within-cases cs (suc n) l true (none-cons (itemKind ds) _ _ e .1) j
+    within (parallel h bs) n l k e j = within-each bs (suc n) l true (none-cons (itemKind ds) _ _ e .1) j
 
     within-all : (ss : Stmts Name) (n : ℕ) (l k : Bool) → Clean (itemsAll ss) → jumpAll ss l k ≡ []
         → WithinAll (checkedAll ss (variableOf ds) n) (ChangedBelow (bitCount ds)) (AssignedBelow (bitCount ds)) l k
     within-all end n l k e j = tt
     within-all (s ⨾ ss) n l k e j =
-        let (p, q) = clean-both (items s) (itemsAll ss) e in
+        let (p, q) = none-both (itemKind ds) (items s) (itemsAll ss) e in
         let (i, o) = both-empty (jumpIn s l k) (jumpAll ss l k) j in
         (within s n l k p i, within-all ss (n + length (items s)) l k q o)
 
@@ -108,7 +96,7 @@ module _ (ds : List Declaration) where
         → WithinCases (checkedCases cs (variableOf ds) n) (ChangedBelow (bitCount ds)) (AssignedBelow (bitCount ds)) l k
     within-cases (default d) n l k e j = within-all d n l k e j
     within-cases (case h x b cs) n l k e j =
-        let (p, q) = clean-both (itemsAll b) (itemsCases cs) (clean-cons _ _ e .1) in
+        let (p, q) = none-both (itemKind ds) (itemsAll b) (itemsCases cs) (none-cons (itemKind ds) _ _ e .1) in
         let (i, o) = both-empty (jumpAll b l k) (jumpCases cs l k) j in
         (within-all b (suc n) l k p i, within-cases cs (suc n + length (itemsAll b)) l k q o)
 
@@ -116,7 +104,7 @@ module _ (ds : List Declaration) where
         → WithinEach (checkedEach bs (variableOf ds) n) (ChangedBelow (bitCount ds)) (AssignedBelow (bitCount ds)) l k
     within-each tree.none n l k e j = tt
     within-each (b ∥ bs) n l k e j =
-        let (p, q) = clean-both (itemsAll b) (itemsEach bs) e in
+        let (p, q) = none-both (itemKind ds) (itemsAll b) (itemsEach bs) e in
         let (i, o) = both-empty (jumpAll b l k) (jumpEach bs l k) j in
         (within-all b n l k p i, within-each bs (n + length (itemsAll b)) l k q o)
 

@@ -13,6 +13,7 @@ pub mod Loops
 pub mod Switch
 pub mod Delay
 pub mod States
+pub mod Places
 pub mod Faults
 pub mod Fits
 pub mod Trials

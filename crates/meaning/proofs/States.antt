@@ -14,7 +14,7 @@ use Rattle.meaning.specs.States.{State, Program, standing, startState, s
 
 -- ---- "eight activity places"
 
-widened-length : (n : ℕ) (es : List Entry) → length (widened n es) ≡ n
+pub widened-length : (n : ℕ) (es : List Entry) → length (widened n es) ≡ n
 widened-length n es =
     length-take n (es ++ replicate n nowhere)
     ∙ min-eq-left (omega (arith, length-append es (replicate n nowhere), length-replicate n nowhere))
