@@ -1,15 +1,14 @@
 -- Of a source without faults: no jump leaves the program, and the value word lies below 2 ^ the number of its non-input bits, 32 at most.
 -- Assumes nothing.
-use mathlib.Core.Path.{_≡_, refl, sym, ap, _∙_, subst}
+use mathlib.Core.Path.{_≡_, refl, sym, subst}
 use mathlib.Core.Bool.{Bool, true, false}
-use mathlib.Core.List.{List, [], _∷_, _++_}
+use mathlib.Core.List.{List, []}
 use mathlib.Core.Option.{Option, none, some}
 use Prim.Native.Nat.{ℕ, suc, _+_, _^_, _≤_, _<_}
 use native.Mathlib.Omega.{arith}
 use borrow.Author.Tests.{ltb-true}
 use lib.Dec.{ltb}
-use lib.ListN.{length, drop}
-use Rattle.file_law.specs.Table.{mostInputs, mostOutputs}
+use lib.ListN.{length}
 use Rattle.meaning.specs.Tree.{Name, Target, whole, part, Head, Stmt, skip, delay, change, assign, choice, while, loop, exit, break, switch, parallel, Stmts, end, _⨾_, Cases, default, case, Branches, _∥_}
 use Rattle.meaning.specs.Tree as tree
 use Rattle.meaning.specs.Numbers.{Variable, Reads, input, boolean, integer, opposite}
@@ -22,12 +21,13 @@ use Rattle.meaning.specs.Checked.{known, variableOf, targeted, checked, 
 use Rattle.meaning.specs.Names.{gather, when}
 use Rattle.meaning.specs.Kinds.{changeable, hasBit, targetKind, itemKind, kindFaults}
 use Rattle.meaning.specs.Jumps.{jumpIn, jumpAll, jumpCases, jumpEach}
-use Rattle.meaning.specs.Sizes.{mostBits, inputPlaces, outputPlaces, bitsFrom, sizeFaults}
+use Rattle.meaning.specs.Sizes.{mostBits}
 use Rattle.meaning.specs.Faults.{faultOf}
 use Rattle.meaning.proofs.Tried.{Within, WithinAll, WithinCases, WithinEach, Tried, by-exit, by-break}
 use Rattle.meaning.proofs.Word.{ChangedBelow, AssignedBelow, Below, tried-below, word-below}
 use Rattle.meaning.proofs.Declared.{bitCount, Found, found-below, initial-below, when-none, bits-most}
 use Rattle.meaning.proofs.Faults.{none-exactly}
+use Rattle.meaning.proofs.Sizes.{sized}
 use Rattle.meaning.proofs.Lists.{not-empty, both-empty, none-both, none-cons}
 
 opposite-false : (t : Bool) → opposite t ≡ false → t ≡ true
@@ -129,11 +129,7 @@ module _ (s : Source) (good : faultOf s ≡ none) where
 
   -- "non-input bits 32"
   pub bits-fit : bitCount (s .declared) ≤ mostBits
-  unfolding sizeFaults
-  bits-fit =
-      let inputs = both-empty (drop mostInputs (gather inputPlaces (s .declared))) _ (none-exactly s .0 good .sizes) in
-      let outputs = both-empty (drop mostOutputs (gather outputPlaces (s .declared))) _ (inputs .1) in
-      bits-most (s .declared) (both-empty (bitsFrom 0 (s .declared)) _ (outputs .1) .0)
+  bits-fit = bits-most (s .declared) (sized s (none-exactly s .0 good .sizes) .bits)
 
   pub start-fits : startState (programOf s) .word < 2 ^ bitCount (s .declared)
   unfolding startState programOf

@@ -15,5 +15,7 @@ pub mod Delay
 pub mod States
 pub mod Places
 pub mod Faults
+pub mod Sizes
 pub mod Fits
+pub mod Eight
 pub mod Trials

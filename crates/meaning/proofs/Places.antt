@@ -6,11 +6,11 @@ use mathlib.Core.List.{List, [], _∷_, _++_, map}
 use Prim.Native.Nat.{ℕ, zero, suc, _+_, _-_, _≤_, max, zero-le}
 use native.Mathlib.Nat.{le-refl, le-trans, le-max-left, le-max-right, sub-zero}
 use native.Mathlib.Omega.{arith}
-use lib.ListN.{length, take, drop, getD, replicate, length-append, length-replicate}
+use lib.ListN.{length, take, drop, getD, replicate, length-append}
 use Rattle.meaning.specs.Tree.{Head, Stmt, skip, delay, change, assign, choice, while, loop, exit, break, switch, parallel, Stmts, end, _⨾_, Cases, default, case, Branches, none, _∥_}
 use Rattle.meaning.specs.Numbers.{Variable, Reads, choose, holds}
 use Rattle.meaning.specs.Tries.{agreed}
-use Rattle.meaning.specs.Clock.{Entry, nowhere, After, done, stands, Jump, out, off, Outcome, finishes, jumps, waits, activities, activitiesAll, activitiesCases, activitiesSum, someAt, inside, insideAll, first, firstCase, andThen, caught, looped, again, delayed, leftOf, Branch, jumpOr, firstJump, each, finished, finishing, triesOf, entriesIn, entriesOf, widened, joined, start, startAll, startCases, startEach, resume, resumeAll, resumeCases, resumeEach}
+use Rattle.meaning.specs.Clock.{Entry, nowhere, After, done, stands, out, off, Outcome, finishes, jumps, waits, activities, activitiesAll, activitiesCases, activitiesSum, someAt, inside, insideAll, first, firstCase, andThen, caught, looped, again, delayed, leftOf, Branch, jumpOr, firstJump, each, finished, finishing, triesOf, entriesIn, entriesOf, widened, joined, start, startAll, startCases, startEach, resume, resumeAll, resumeCases, resumeEach}
 use Rattle.meaning.proofs.States.{widened-length}
 
 -- the outcome stands at n places or fewer
@@ -24,7 +24,7 @@ placesAt (stands es) = es
 no-place : {n : ℕ} {o : Outcome} → entriesIn o ≡ [] → Places n o
 no-place e = record { most = rw e zero-le }
 
-more : {m n : ℕ} {o : Outcome} → m ≤ n → Places m o → Places n o
+pub more : {m n : ℕ} {o : Outcome} → m ≤ n → Places m o → Places n o
 more h p = record { most = le-trans (p .most) h }
 
 first-one : (ss : Stmts Variable) → length (placesAt (first ss)) ≤ 1
@@ -124,6 +124,7 @@ cases-one (case h e b cs) = le-trans (cases-one cs) (le-max-right (activitiesAll
 
 mutual
   unfolding start activities
+
   pub start-places : (s : Stmt Variable) (r : Reads) → Places (activities s) (start s r)
   start-places (skip h) r = no-place refl
   start-places (delay h p n) r = on-delayed (le-refl 1) h n
@@ -151,7 +152,7 @@ mutual
   start-places-cases (default d) r = start-places-all d r
   start-places-cases (case h e b cs) r =
       let later : Places (max (activitiesAll b) (activitiesCases cs)) (startCases cs r)
-              = more (le-max-right (activitiesAll b) (activitiesCases cs)) (start-places-cases cs r) in
+      = more (le-max-right (activitiesAll b) (activitiesCases cs)) (start-places-cases cs r) in
       on-choose (holds e r)
       (on-then (cases-one (case h e b cs)) (startAll b r) (firstCase cs) (first-case-one cs)
       (more (le-max-left (activitiesAll b) (activitiesCases cs)) (start-places-all b r))
@@ -160,6 +161,7 @@ mutual
 
 mutual
   unfolding resume activities
+
   pub resume-places : (s : Stmt Variable) (es : List Entry) (r : Reads) → Places (activities s) (resume s es r)
   resume-places (skip h) es r = start-places (skip h) r
   resume-places (delay h p n) es r = on-delayed (le-refl 1) h (leftOf n (getD es 0 nowhere))
