@@ -16,6 +16,7 @@ pub mod States
 pub mod Places
 pub mod Faults
 pub mod Sizes
+pub mod Numbered
 pub mod Fits
 pub mod Eight
 pub mod Trials
