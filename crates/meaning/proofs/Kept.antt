@@ -1,4 +1,5 @@
--- After `:=` an integer reads the low bits of the value, and every other bit is as it was: for any place and width.
+-- What a single statement leaves in the word, for any place and width: `:=` the low bits of the value in the integer, `raise`, `lower` and `invert`
+-- their value in the bit; and every other bit is as it was.
 -- Assumes nothing.
 use mathlib.Core.Path.{_≡_, refl, sym, ap, _∙_}
 use mathlib.Core.Bool.{Bool, true, false}
@@ -10,11 +11,12 @@ use borrow.Author.Tests.{ltb-true, ltb-false}
 use lib.Dec.{ltb}
 use lib.IntN.{ℤ}
 use lib.Pow.{pow-pos, ones-sub-lt}
-use Rattle.meaning.specs.Numbers.{bitOf, lowBits, opposite}
-use Rattle.meaning.specs.Tries.{tryBits, taken}
-use Rattle.meaning.proofs.Bits.{bit-shifted, bit-below, bit-past, bit-turned, bit-field, same-bits}
+use Rattle.meaning.specs.Tree.{Change, Target}
+use Rattle.meaning.specs.Numbers.{Variable, Reads, bitOf, lowBits, opposite}
+use Rattle.meaning.specs.Tries.{tryBit, changed, bitAt, changeTries, tryBits, taken}
+use Rattle.meaning.proofs.Bits.{bit-shifted, bit-below, bit-past, bit-turned, bit-field, bit-power, bit-power-other, no-bit, same-bits}
 use Rattle.meaning.proofs.LowBits.{low-lt}
-use Rattle.meaning.proofs.Tries.{bits-apart, taken-one, taken-zero, taken-not}
+use Rattle.meaning.proofs.Tries.{bit-apart, bits-apart, taken-one, taken-zero, taken-not}
 
 module _ (low width v : ℕ) (fits : v < 2 ^ width) (word : ℕ) where
   kept-one : (i : ℕ) → bitOf v i ≡ true → bitOf (taken (tryBits low width v) word) (low + i) ≡ true
@@ -58,3 +60,21 @@ kept low width z word = kept-field low width (lowBits width z) (low-lt width z) 
 pub others : (low width : ℕ) (z : ℤ) (word j : ℕ) → (j < low) ⊎ (low + width ≤ j)
     → bitOf (taken (tryBits low width (lowBits width z)) word) j ≡ bitOf word j
 others low width z word j o = others-stay low width (lowBits width z) (low-lt width z) word j o
+
+-- ---- "raise will assert .., lower will deassert it, and invert will force a change of value"
+
+set-bit : (j : ℕ) (b : Bool) (word : ℕ) → bitOf (taken (tryBit j b) word) j ≡ b
+set-bit j true word = taken-one (tryBit j true) word j (bit-apart j true) (bit-power j)
+set-bit j false word = taken-zero (tryBit j false) word j (bit-power j)
+
+set-others : (j : ℕ) (b : Bool) (word i : ℕ) → (i ≡ j → ⊥) → bitOf (taken (tryBit j b) word) i ≡ bitOf word i
+set-others j true word i n = taken-not (tryBit j true) word i (bit-power-other j i n) (no-bit i)
+set-others j false word i n = taken-not (tryBit j false) word i (no-bit i) (bit-power-other j i n)
+
+pub changed-bit : (c : Change) (t : Target Variable) (r : Reads)
+    → bitOf (taken (changeTries c t r) (r .word)) (bitAt t) ≡ changed c (bitOf (r .word) (bitAt t))
+changed-bit c t r = set-bit (bitAt t) (changed c (bitOf (r .word) (bitAt t))) (r .word)
+
+pub changed-others : (c : Change) (t : Target Variable) (r : Reads) (i : ℕ) → (i ≡ bitAt t → ⊥)
+    → bitOf (taken (changeTries c t r) (r .word)) i ≡ bitOf (r .word) i
+changed-others c t r i n = set-others (bitAt t) (changed c (bitOf (r .word) (bitAt t))) (r .word) i n

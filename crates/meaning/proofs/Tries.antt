@@ -121,7 +121,7 @@ none-apart j e f = not-both e (no-bit j)
 pub agreed-apart : (ts : List Tries) → Apart (agreed ts)
 agreed-apart ts j e f = agreed-one ts j .0 e .1 (agreed-zero ts j .0 f .0)
 
-bit-apart : (j : ℕ) (b : Bool) → Apart (tryBit j b)
+pub bit-apart : (j : ℕ) (b : Bool) → Apart (tryBit j b)
 bit-apart k true j e f = not-both f (no-bit j)
 bit-apart k false j e f = not-both e (no-bit j)
 
