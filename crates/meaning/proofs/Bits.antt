@@ -1,7 +1,7 @@
 -- Bit by bit: what the masks' operations do to each bit, and numbers that are equal by their bits.
 -- Assumes nothing.
 use mathlib.Core.Path.{_≡_, refl, sym, ap, _∙_}
-use mathlib.Core.Bool.{Bool, true, false}
+use mathlib.Core.Bool.{Bool, true, false, not as opposite}
 use Prim.Native.Nat.{ℕ, zero, suc, _+_, _-_, _*_, _/_, _%_, _^_, _≤_, _<_}
 use native.Mathlib.Nat.{mod-lt, div-one, div-eq-of-lt, lt-of-lt-of-le, mul-comm, mul-assoc, mul-le-mul-left, mul-sub, one-mul}
 use native.Mathlib.Omega.{arith}
@@ -11,7 +11,7 @@ use lib.Arith.{bin-ind}
 use lib.Bits.{bitAnd, bitOr, and-shr, and-mod, or-shr, or-mod, xor-shr, xor-mod, shifted-even}
 use lib.Pow.{pow-pos, pow-mono, pow-lt, pow-add, shr-lt, shr-shr, shl-shr, split, high, low, le-ones, ones-split, ones-sub-lt, field, mod-mod-pow}
 use Rattle.meaning.specs.Tree.{and, or}
-use Rattle.meaning.specs.Numbers.{isOne, bitOf, opposite, combine}
+use Rattle.meaning.specs.Numbers.{isOne, bitOf, combine}
 use Rattle.meaning.specs.Tries.{without}
 
 -- bit j as a number

@@ -1,7 +1,7 @@
 -- The bits of a declared variable lie below the number of non-input bits, and so does the initial word.
 -- Assumes nothing.
 use mathlib.Core.Path.{_≡_, refl, ap}
-use mathlib.Core.Bool.{Bool, true, false}
+use mathlib.Core.Bool.{Bool, true, false, cond}
 use mathlib.Core.List.{List, [], _∷_}
 use mathlib.Core.Option.{Option, none, some}
 use Prim.Native.Nat.{ℕ, _+_, _*_, _%_, _^_, _≤_, _<_}
@@ -10,7 +10,7 @@ use native.Mathlib.Omega.{arith}
 use borrow.Author.Tests.{ltb-false}
 use lib.Dec.{ltb}
 use lib.Pow.{pow-pos, pow-add}
-use Rattle.meaning.specs.Numbers.{Variable, input, boolean, integer, choose}
+use Rattle.meaning.specs.Numbers.{Variable, input, boolean, integer}
 use Rattle.meaning.specs.Declared.{Declaration, inputs, outputs, internals, integers, nameOf, sameBytes, one, outputCount, anOutput, otherBits, standsFor, lookFrom, lookUp, asBit, valueAt, initialFrom, initialWord}
 use Rattle.meaning.specs.Names.{when}
 use Rattle.meaning.specs.Sizes.{mostBits, bitsOf, bitsFrom}
@@ -34,9 +34,9 @@ abbrev pub Found : ℕ → Option Variable → Type 0
 Found k none = Unit {0}
 Found k (some v) = Below k v
 
-found-choose : (k : ℕ) (t : Bool) (v : Variable) (next : Option Variable) → Below k v → Found k next → Found k (choose t (some v) next)
-found-choose k true v next p q = p
-found-choose k false v next p q = q
+found-cond : (k : ℕ) (t : Bool) (v : Variable) (next : Option Variable) → Below k v → Found k next → Found k (cond t (some v) next)
+found-cond k true v next p q = p
+found-cond k false v next p q = q
 
 stands-below : (k : ℕ) (d : Declaration) (i o b : ℕ) → o + anOutput d ≤ k → b + otherBits d ≤ k → Below k (standsFor d i o b)
 stands-below k (inputs n e) i o b h g = tt
@@ -49,7 +49,7 @@ found-from : (k : ℕ) (ds : List Declaration) (x : List ℕ) (i o b : ℕ)
 unfolding outputCount otherCount lookFrom
 found-from k [] x i o b h g = tt
 found-from k (d ∷ ds) x i o b h g =
-    found-choose k (sameBytes (nameOf d .bytes) x) (standsFor d i o b) _
+    found-cond k (sameBytes (nameOf d .bytes) x) (standsFor d i o b) _
     (stands-below k d i o b (omega arith) (omega arith))
     (found-from k ds x (one d + i) (anOutput d + o) (otherBits d + b) (omega arith) (omega arith))
 

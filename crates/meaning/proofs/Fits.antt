@@ -1,7 +1,7 @@
 -- Of a source without faults: no jump leaves the program, and the value word lies below 2 ^ the number of its non-input bits, 32 at most.
 -- Assumes nothing.
 use mathlib.Core.Path.{_≡_, refl, sym, subst}
-use mathlib.Core.Bool.{Bool, true, false}
+use mathlib.Core.Bool.{Bool, true, false, not as opposite}
 use mathlib.Core.List.{List, []}
 use mathlib.Core.Option.{Option, none, some}
 use Prim.Native.Nat.{ℕ, suc, _+_, _^_, _≤_, _<_}
@@ -11,7 +11,7 @@ use lib.Dec.{ltb}
 use lib.ListN.{length}
 use Rattle.meaning.specs.Tree.{Name, Target, whole, part, Head, Stmt, skip, delay, change, assign, choice, while, loop, exit, break, switch, parallel, Stmts, end, _⨾_, Cases, default, case, Branches, _∥_}
 use Rattle.meaning.specs.Tree as tree
-use Rattle.meaning.specs.Numbers.{Variable, Reads, input, boolean, integer, opposite}
+use Rattle.meaning.specs.Numbers.{Variable, Reads, input, boolean, integer}
 use Rattle.meaning.specs.Tries.{bitAt}
 use Rattle.meaning.specs.Clock.{Entry, Jump, out, off, jumps, resumeAll}
 use Rattle.meaning.specs.States.{State, startState, stepState}

@@ -2,7 +2,7 @@
 -- their value in the bit; and every other bit is as it was.
 -- Assumes nothing.
 use mathlib.Core.Path.{_≡_, refl, sym, ap, _∙_}
-use mathlib.Core.Bool.{Bool, true, false}
+use mathlib.Core.Bool.{Bool, true, false, not as opposite}
 use mathlib.Core.Logic.{_⊎_, inl, inr}
 use Prim.Native.Nat.{ℕ, _+_, _-_, _*_, _/_, _%_, _^_, _<_, _≤_}
 use native.Mathlib.Nat.{mod-lt}
@@ -12,7 +12,7 @@ use lib.Dec.{ltb}
 use lib.IntN.{ℤ}
 use lib.Pow.{pow-pos, ones-sub-lt}
 use Rattle.meaning.specs.Tree.{Change, Target}
-use Rattle.meaning.specs.Numbers.{Variable, Reads, bitOf, lowBits, opposite}
+use Rattle.meaning.specs.Numbers.{Variable, Reads, bitOf, lowBits}
 use Rattle.meaning.specs.Tries.{tryBit, changed, bitAt, changeTries, tryBits, taken}
 use Rattle.meaning.proofs.Bits.{bit-shifted, bit-below, bit-past, bit-turned, bit-field, bit-power, bit-power-other, no-bit, same-bits}
 use Rattle.meaning.proofs.LowBits.{low-lt}

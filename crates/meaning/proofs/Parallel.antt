@@ -1,11 +1,11 @@
 -- What a parallel makes of its branches.
 -- Assumes nothing.
 use mathlib.Core.Path.{_≡_, refl, _∙_}
-use mathlib.Core.Bool.{true, false}
+use mathlib.Core.Bool.{true, false, cond}
 use mathlib.Core.List.{List, [], _∷_, _++_, map}
 use lib.ListN.{take, drop}
 use Rattle.meaning.specs.Tree.{Stmts, Branches, _∥_}
-use Rattle.meaning.specs.Numbers.{Variable, Reads, choose}
+use Rattle.meaning.specs.Numbers.{Variable, Reads}
 use Rattle.meaning.specs.Tries.{agreed}
 use Rattle.meaning.specs.Clock.{Entry, done, stands, Jump, Outcome, finishes, jumps, waits, activitiesAll, Branch, jumpOr, firstJump, finished, finishing, each, triesOf, entriesOf, joined, start, startAll, startEach, resume, resumeAll, resumeEach}
 
@@ -63,5 +63,5 @@ pub all-finished : (bs : List Branch) → AllStay bs → each finished bs ≡ tr
 all-finished bs s e = none-jumps bs _ s ∙ rw e
 
 pub waits-else : (bs : List Branch) → AllStay bs → each finished bs ≡ false
-    → joined bs ≡ waits (agreed (map triesOf bs)) (choose (each finishing bs) done (stands (entriesOf bs)))
+    → joined bs ≡ waits (agreed (map triesOf bs)) (cond (each finishing bs) done (stands (entriesOf bs)))
 waits-else bs s e = none-jumps bs _ s ∙ rw e

@@ -1,14 +1,14 @@
 -- No activity's place is lost: after a clock a list stands at no more places than it has activities.
 -- Assumes nothing.
 use mathlib.Core.Path.{_≡_, refl, sym, ap, _∙_}
-use mathlib.Core.Bool.{Bool, true, false}
+use mathlib.Core.Bool.{Bool, true, false, cond}
 use mathlib.Core.List.{List, [], _∷_, _++_, map}
 use Prim.Native.Nat.{ℕ, zero, suc, _+_, _-_, _≤_, max, zero-le}
 use native.Mathlib.Nat.{le-refl, le-trans, le-max-left, le-max-right, sub-zero}
 use native.Mathlib.Omega.{arith}
 use lib.ListN.{length, take, drop, getD, replicate, length-append}
 use Rattle.meaning.specs.Tree.{Head, Stmt, skip, delay, change, assign, choice, while, loop, exit, break, switch, parallel, Stmts, end, _⨾_, Cases, default, case, Branches, none, _∥_}
-use Rattle.meaning.specs.Numbers.{Variable, Reads, choose, holds}
+use Rattle.meaning.specs.Numbers.{Variable, Reads, holds}
 use Rattle.meaning.specs.Tries.{agreed}
 use Rattle.meaning.specs.Clock.{Entry, nowhere, After, done, stands, out, off, Outcome, finishes, jumps, waits, activities, activitiesAll, activitiesCases, activitiesSum, someAt, inside, insideAll, first, firstCase, andThen, caught, looped, again, delayed, leftOf, Branch, jumpOr, firstJump, each, finished, finishing, triesOf, entriesIn, entriesOf, widened, joined, start, startAll, startCases, startEach, resume, resumeAll, resumeCases, resumeEach}
 use Rattle.meaning.proofs.States.{widened-length}
@@ -35,9 +35,9 @@ first-case-one : (cs : Cases Variable) → length (placesAt (firstCase cs)) ≤ 
 first-case-one (default d) = first-one d
 first-case-one (case h e b cs) = le-refl 1
 
-on-choose : {n : ℕ} (t : Bool) {x y : Outcome} → Places n x → Places n y → Places n (choose t x y)
-on-choose true p q = p
-on-choose false p q = q
+on-cond : {n : ℕ} (t : Bool) {x y : Outcome} → Places n x → Places n y → Places n (cond t x y)
+on-cond true p q = p
+on-cond false p q = q
 
 module _ {n : ℕ} (one : 1 ≤ n) where
   on-then : (o : Outcome) {next : Outcome} (place : After) → length (placesAt place) ≤ 1
@@ -94,9 +94,9 @@ on-first (b ∷ bs) p = on-jump (b .outcome) (on-first bs p)
     on-jump (waits t a) p = p
 
 on-joined : (bs : List Branch) → Places (wideSum bs) (joined bs)
-on-joined bs = on-first bs (on-choose (each finished bs) (no-place refl) (standing (each finishing bs)))
+on-joined bs = on-first bs (on-cond (each finished bs) (no-place refl) (standing (each finishing bs)))
   where
-    standing : (t : Bool) → Places (wideSum bs) (waits (agreed (map triesOf bs)) (choose t done (stands (entriesOf bs))))
+    standing : (t : Bool) → Places (wideSum bs) (waits (agreed (map triesOf bs)) (cond t done (stands (entriesOf bs))))
     standing true = no-place refl
     standing false = record { most = rw (entries-length bs) (le-refl (wideSum bs)) }
 
@@ -131,10 +131,10 @@ mutual
   start-places (change h c t) r = no-place refl
   start-places (assign h v e) r = no-place refl
   start-places (choice h e a b) r =
-      on-choose (holds e r)
+      on-cond (holds e r)
       (more (le-max-left (activitiesAll a) (activitiesAll b)) (start-places-all a r))
       (more (le-max-right (activitiesAll a) (activitiesAll b)) (start-places-all b r))
-  start-places (while h e b) r = on-choose (holds e r) (on-looped (all-one b) h (startAll b r) (start-places-all b r)) (no-place refl)
+  start-places (while h e b) r = on-cond (holds e r) (on-looped (all-one b) h (startAll b r) (start-places-all b r)) (no-place refl)
   start-places (loop h b) r = on-looped (all-one b) h (startAll b r) (start-places-all b r)
   start-places (exit h) r = no-place refl
   start-places (break h) r = no-place refl
@@ -153,7 +153,7 @@ mutual
   start-places-cases (case h e b cs) r =
       let later : Places (max (activitiesAll b) (activitiesCases cs)) (startCases cs r)
       = more (le-max-right (activitiesAll b) (activitiesCases cs)) (start-places-cases cs r) in
-      on-choose (holds e r)
+      on-cond (holds e r)
       (on-then (cases-one (case h e b cs)) (startAll b r) (firstCase cs) (first-case-one cs)
       (more (le-max-left (activitiesAll b) (activitiesCases cs)) (start-places-all b r))
       later)
@@ -168,28 +168,28 @@ mutual
   resume-places (change h c t) es r = start-places (change h c t) r
   resume-places (assign h v e) es r = start-places (assign h v e) r
   resume-places (choice h e a b) es r =
-      on-choose (someAt (h .number) es) (start-places (choice h e a b) r)
-      (on-choose (insideAll a es)
+      on-cond (someAt (h .number) es) (start-places (choice h e a b) r)
+      (on-cond (insideAll a es)
       (more (le-max-left (activitiesAll a) (activitiesAll b)) (resume-places-all a es r))
       (more (le-max-right (activitiesAll a) (activitiesAll b)) (resume-places-all b es r)))
   resume-places (while h e b) es r =
-      on-choose (someAt (h .number) es) (start-places (while h e b) r)
+      on-cond (someAt (h .number) es) (start-places (while h e b) r)
       (on-again (all-one b) h (resumeAll b es r) (start-places (while h e b) r) (resume-places-all b es r))
   resume-places (loop h b) es r =
-      on-choose (someAt (h .number) es) (start-places (loop h b) r)
+      on-cond (someAt (h .number) es) (start-places (loop h b) r)
       (on-again (all-one b) h (resumeAll b es r) (start-places (loop h b) r) (resume-places-all b es r))
   resume-places (exit h) es r = start-places (exit h) r
   resume-places (break h) es r = start-places (break h) r
   resume-places (switch h cs) es r =
-      on-choose (someAt (h .number) es) (start-places (switch h cs) r) (on-caught (resumeCases cs es r) (resume-places-cases cs es r))
+      on-cond (someAt (h .number) es) (start-places (switch h cs) r) (on-caught (resumeCases cs es r) (resume-places-cases cs es r))
   resume-places (parallel h bs) es r =
-      on-choose (someAt (h .number) es) (start-places (parallel h bs) r)
+      on-cond (someAt (h .number) es) (start-places (parallel h bs) r)
       (on-caught (joined (resumeEach bs es r)) (rw (← (wide-resume bs es r)) (on-joined (resumeEach bs es r))))
 
   pub resume-places-all : (ss : Stmts Variable) (es : List Entry) (r : Reads) → Places (activitiesAll ss) (resumeAll ss es r)
   resume-places-all end es r = no-place refl
   resume-places-all (s ⨾ ss) es r =
-      on-choose (inside s es)
+      on-cond (inside s es)
       (on-then (all-one (s ⨾ ss)) (resume s es r) (first ss) (first-one ss)
       (more (le-max-left (activities s) (activitiesAll ss)) (resume-places s es r))
       (more (le-max-right (activities s) (activitiesAll ss)) (start-places-all ss r)))
@@ -198,8 +198,8 @@ mutual
   pub resume-places-cases : (cs : Cases Variable) (es : List Entry) (r : Reads) → Places (activitiesCases cs) (resumeCases cs es r)
   resume-places-cases (default d) es r = resume-places-all d es r
   resume-places-cases (case h e b cs) es r =
-      on-choose (someAt (h .number) es) (start-places-cases (case h e b cs) r)
-      (on-choose (insideAll b es)
+      on-cond (someAt (h .number) es) (start-places-cases (case h e b cs) r)
+      (on-cond (insideAll b es)
       (on-then (cases-one (case h e b cs)) (resumeAll b es r) (firstCase cs) (first-case-one cs)
       (more (le-max-left (activitiesAll b) (activitiesCases cs)) (resume-places-all b es r))
       (more (le-max-right (activitiesAll b) (activitiesCases cs)) (start-places-cases cs r)))

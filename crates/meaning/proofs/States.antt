@@ -1,14 +1,14 @@
 -- A state has eight places, and the end is for ever.
 -- Assumes nothing.
 use mathlib.Core.Path.{_≡_, refl, sym, ap, _∙_}
-use mathlib.Core.Bool.{Bool, true, false}
+use mathlib.Core.Bool.{Bool, true, false, cond}
 use mathlib.Core.List.{List, _++_}
 use Prim.Native.Nat.{ℕ, zero, suc}
 use native.Mathlib.Nat.{min-eq-left}
 use native.Mathlib.Omega.{arith}
 use lib.ListN.{length, replicate, length-append, length-take, length-replicate}
 use Rattle.meaning.specs.Tree.{Stmt, skip, delay, change, assign, choice, while, loop, exit, break, switch, parallel, Stmts, end, _⨾_, Cases, default, case, Branches, none, _∥_}
-use Rattle.meaning.specs.Numbers.{Variable, Reads, choose}
+use Rattle.meaning.specs.Numbers.{Variable, Reads}
 use Rattle.meaning.specs.Clock.{Entry, nowhere, After, done, stands, Outcome, finishes, jumps, waits, someAt, inside, insideAll, insideCases, insideSome, widened, first, resume, resumeAll}
 use Rattle.meaning.specs.States.{State, Program, standing, startState, settled, stepState}
 
@@ -38,8 +38,8 @@ step-eight p s input = settled-eight (resumeAll (p .body) (s .entries) (record {
 
 -- ---- "After the last statement the machine stands at the end for ever"
 
-choose-none : (a b : Bool) → a ≡ false → b ≡ false → choose a true b ≡ false
-choose-none a b e f = rw (e, f)
+cond-none : (a b : Bool) → a ≡ false → b ≡ false → cond a true b ≡ false
+cond-none a b e f = rw (e, f)
 
 -- where no activity stands anywhere, none stands inside a statement
 module _ (es : List Entry) (no-place : (n : ℕ) → someAt n es ≡ false) where
@@ -51,25 +51,25 @@ module _ (es : List Entry) (no-place : (n : ℕ) → someAt n es ≡ false) wher
     outside (delay h p n) = no-place (h .number)
     outside (change h c t) = no-place (h .number)
     outside (assign h v e) = no-place (h .number)
-    outside (choice h e a b) = choose-none _ _ (no-place (h .number)) (choose-none _ _ (outside-all a) (outside-all b))
-    outside (while h e b) = choose-none _ _ (no-place (h .number)) (outside-all b)
-    outside (loop h b) = choose-none _ _ (no-place (h .number)) (outside-all b)
+    outside (choice h e a b) = cond-none _ _ (no-place (h .number)) (cond-none _ _ (outside-all a) (outside-all b))
+    outside (while h e b) = cond-none _ _ (no-place (h .number)) (outside-all b)
+    outside (loop h b) = cond-none _ _ (no-place (h .number)) (outside-all b)
     outside (exit h) = no-place (h .number)
     outside (break h) = no-place (h .number)
-    outside (switch h cs) = choose-none _ _ (no-place (h .number)) (outside-cases cs)
-    outside (parallel h bs) = choose-none _ _ (no-place (h .number)) (outside-some bs)
+    outside (switch h cs) = cond-none _ _ (no-place (h .number)) (outside-cases cs)
+    outside (parallel h bs) = cond-none _ _ (no-place (h .number)) (outside-some bs)
 
     outside-all : (ss : Stmts Variable) → insideAll ss es ≡ false
     outside-all end = refl
-    outside-all (s ⨾ ss) = choose-none _ _ (outside s) (outside-all ss)
+    outside-all (s ⨾ ss) = cond-none _ _ (outside s) (outside-all ss)
 
     outside-cases : (cs : Cases Variable) → insideCases cs es ≡ false
     outside-cases (default d) = outside-all d
-    outside-cases (case h e b cs) = choose-none _ _ (no-place (h .number)) (choose-none _ _ (outside-all b) (outside-cases cs))
+    outside-cases (case h e b cs) = cond-none _ _ (no-place (h .number)) (cond-none _ _ (outside-all b) (outside-cases cs))
 
     outside-some : (bs : Branches Variable) → insideSome bs es ≡ false
     outside-some none = refl
-    outside-some (b ∥ bs) = choose-none _ _ (outside-all b) (outside-some bs)
+    outside-some (b ∥ bs) = cond-none _ _ (outside-all b) (outside-some bs)
 
   pub nothing-runs : (ss : Stmts Variable) (r : Reads) → resumeAll ss es r ≡ finishes
   unfolding resume

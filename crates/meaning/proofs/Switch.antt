@@ -1,13 +1,13 @@
 -- A switch goes on after a true case, and runs its default.
 -- Assumes nothing.
 use mathlib.Core.Path.{_≡_, refl}
-use mathlib.Core.Bool.{Bool, true, false}
+use mathlib.Core.Bool.{Bool, true, false, cond}
 use mathlib.Core.List.{List}
 use mathlib.Core.Logic.{_⊎_, inl, inr}
 use Prim.Native.Nat.{ℕ}
 use native.Mathlib.Omega.{arith}
 use Rattle.meaning.specs.Tree.{Expr, Head, Stmts, Cases, default, case}
-use Rattle.meaning.specs.Numbers.{Variable, Reads, choose, holds}
+use Rattle.meaning.specs.Numbers.{Variable, Reads, holds}
 use Rattle.meaning.specs.Tries.{Tries}
 use Rattle.meaning.specs.Clock.{Entry, After, done, stands, Outcome, finishes, jumps, waits, someAt, insideAll, first, firstCase, andThen, finishing, start, startAll, startCases, resume, resumeAll, resumeCases}
 
@@ -51,7 +51,7 @@ next-place (default d) n = n
 next-place (case h e b cs) n = λ q. let z : _≡_ {A = ℕ} 0 1 = cc in omega arith
 
 chosen : {P : Type 0} (t : Bool) (x y : Outcome)
-    → (finishing x ≡ true → P) → (finishing y ≡ true → P) → finishing (choose t x y) ≡ true → P
+    → (finishing x ≡ true → P) → (finishing y ≡ true → P) → finishing (cond t x y) ≡ true → P
 chosen true x y f g e = f e
 chosen false x y f g e = g e
 

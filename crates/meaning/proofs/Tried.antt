@@ -2,12 +2,12 @@
 -- and a jump leaves only what there is to leave.
 -- Assumes nothing.
 use mathlib.Core.Path.{_≡_}
-use mathlib.Core.Bool.{Bool, true, false}
+use mathlib.Core.Bool.{Bool, true, false, cond}
 use mathlib.Core.List.{List, [], _∷_, map, List·Memᴰ, List·Memᴰ·head, List·Memᴰ·tail, List·Memᴰ·not-nil}
 use Prim.Native.Nat.{ℕ, zero, suc}
 use lib.ListN.{take, drop, getD}
 use Rattle.meaning.specs.Tree.{Head, Change, Target, Expr, Stmt, skip, delay, change, assign, choice, while, loop, exit, break, switch, parallel, Stmts, end, _⨾_, Cases, default, case, Branches, none, _∥_}
-use Rattle.meaning.specs.Numbers.{Variable, Reads, choose, holds}
+use Rattle.meaning.specs.Numbers.{Variable, Reads, holds}
 use Rattle.meaning.specs.Tries.{Tries, noTries, changeTries, assignTries, agreed}
 use Rattle.meaning.specs.Clock.{Entry, nowhere, After, done, stands, out, off, Outcome, finishes, jumps, waits, activitiesAll, someAt, inside, insideAll, first, firstCase, andThen, caught, looped, again, delayed, leftOf, Branch, jumpOr, firstJump, each, finished, triesIn, triesOf, joined, start, startAll, startCases, startEach, resume, resumeAll, resumeCases, resumeEach}
 
@@ -61,9 +61,9 @@ module _
     (of-agreed : (ts : List Tries) → ((t : Tries) → List·Memᴰ t ts → P t) → P (agreed ts))
   where
     module _ {l k : Bool} where
-      on-choose : (b : Bool) {x y : Outcome} → Tried P l k x → Tried P l k y → Tried P l k (choose b x y)
-      on-choose true p q = p
-      on-choose false p q = q
+      on-cond : (b : Bool) {x y : Outcome} → Tried P l k x → Tried P l k y → Tried P l k (cond b x y)
+      on-cond true p q = p
+      on-cond false p q = q
 
       on-then : {o next : Outcome} (place : After) → Tried P l k o → Tried P l k next → Tried P l k (andThen o next place)
       on-then place in-no-time q = q
@@ -120,7 +120,7 @@ module _
       on-first (and-branch p ps) q = on-jump p (on-first ps q)
 
       on-joined : {bs : List Branch} → TriedEach P l k bs → Tried P l k (joined bs)
-      on-joined {bs} p = on-first p (on-choose (each finished bs) in-no-time (by-wait (of-agreed (map triesOf bs) (tries-of p))))
+      on-joined {bs} p = on-first p (on-cond (each finished bs) in-no-time (by-wait (of-agreed (map triesOf bs) (tries-of p))))
 
     mutual
       unfolding Within start
@@ -130,8 +130,8 @@ module _
       on-start (delay h p n) r w = on-delayed h n
       on-start (change h c t) r w = by-wait (of-change c t r w)
       on-start (assign h v e) r w = by-wait (of-assign v e r w)
-      on-start (choice h e a b) r w = on-choose (holds e r) (on-start-all a r (w .0)) (on-start-all b r (w .1))
-      on-start (while h e b) r w = on-choose (holds e r) (on-looped h (on-start-all b r w)) in-no-time
+      on-start (choice h e a b) r w = on-cond (holds e r) (on-start-all a r (w .0)) (on-start-all b r (w .1))
+      on-start (while h e b) r w = on-cond (holds e r) (on-looped h (on-start-all b r w)) in-no-time
       on-start (loop h b) r w = on-looped h (on-start-all b r w)
       on-start (exit h) r w = by-exit w
       on-start (break h) r w = by-break w
@@ -145,7 +145,7 @@ module _
       pub on-start-cases : (cs : Cases Variable) {l k : Bool} (r : Reads) → WithinCases cs C A l k → Tried P l k (startCases cs r)
       on-start-cases (default d) r w = on-start-all d r w
       on-start-cases (case h e b cs) r w =
-          on-choose (holds e r) (on-then (firstCase cs) (on-start-all b r (w .0)) (on-start-cases cs r (w .1))) (on-start-cases cs r (w .1))
+          on-cond (holds e r) (on-then (firstCase cs) (on-start-all b r (w .0)) (on-start-cases cs r (w .1))) (on-start-cases cs r (w .1))
 
       pub on-start-each : (bs : Branches Variable) {l k : Bool} (r : Reads) → WithinEach bs C A l k → TriedEach P l k (startEach bs r)
       on-start-each none r w = no-branch
@@ -160,33 +160,33 @@ module _
       on-resume (change h c t) es r w = on-start (change h c t) r w
       on-resume (assign h v e) es r w = on-start (assign h v e) r w
       on-resume (choice h e a b) es r w =
-          on-choose (someAt (h .number) es) (on-start (choice h e a b) r w)
-          (on-choose (insideAll a es) (on-resume-all a es r (w .0)) (on-resume-all b es r (w .1)))
+          on-cond (someAt (h .number) es) (on-start (choice h e a b) r w)
+          (on-cond (insideAll a es) (on-resume-all a es r (w .0)) (on-resume-all b es r (w .1)))
       on-resume (while h e b) es r w =
-          on-choose (someAt (h .number) es) (on-start (while h e b) r w)
+          on-cond (someAt (h .number) es) (on-start (while h e b) r w)
           (on-again h (on-start (while h e b) r w) (on-resume-all b es r w))
       on-resume (loop h b) es r w =
-          on-choose (someAt (h .number) es) (on-start (loop h b) r w)
+          on-cond (someAt (h .number) es) (on-start (loop h b) r w)
           (on-again h (on-start (loop h b) r w) (on-resume-all b es r w))
       on-resume (exit h) es r w = on-start (exit h) r w
       on-resume (break h) es r w = on-start (break h) r w
       on-resume (switch h cs) es r w =
-          on-choose (someAt (h .number) es) (on-start (switch h cs) r w) (on-caught (on-resume-cases cs es r w))
+          on-cond (someAt (h .number) es) (on-start (switch h cs) r w) (on-caught (on-resume-cases cs es r w))
       on-resume (parallel h bs) es r w =
-          on-choose (someAt (h .number) es) (on-start (parallel h bs) r w)
+          on-cond (someAt (h .number) es) (on-start (parallel h bs) r w)
           (on-caught (on-joined (on-resume-each bs es r w)))
 
       pub on-resume-all : (ss : Stmts Variable) {l k : Bool} (es : List Entry) (r : Reads) → WithinAll ss C A l k → Tried P l k (resumeAll ss es r)
       on-resume-all end es r w = in-no-time
       on-resume-all (s ⨾ ss) es r w =
-          on-choose (inside s es) (on-then (first ss) (on-resume s es r (w .0)) (on-start-all ss r (w .1)))
+          on-cond (inside s es) (on-then (first ss) (on-resume s es r (w .0)) (on-start-all ss r (w .1)))
           (on-resume-all ss es r (w .1))
 
       pub on-resume-cases : (cs : Cases Variable) {l k : Bool} (es : List Entry) (r : Reads) → WithinCases cs C A l k → Tried P l k (resumeCases cs es r)
       on-resume-cases (default d) es r w = on-resume-all d es r w
       on-resume-cases (case h e b cs) es r w =
-          on-choose (someAt (h .number) es) (on-start-cases (case h e b cs) r w)
-          (on-choose (insideAll b es)
+          on-cond (someAt (h .number) es) (on-start-cases (case h e b cs) r w)
+          (on-cond (insideAll b es)
           (on-then (firstCase cs) (on-resume-all b es r (w .0)) (on-start-cases cs r (w .1)))
           (on-resume-cases cs es r (w .1)))
 

@@ -1,7 +1,7 @@
 -- The rule of tries, bit by bit.
 -- Assumes nothing.
 use mathlib.Core.Path.{_≡_, refl, sym, ap, _∙_}
-use mathlib.Core.Bool.{Bool, true, false}
+use mathlib.Core.Bool.{Bool, true, false, not as opposite}
 use mathlib.Core.Logic.{_⊎_, inl, inr, _↔_}
 use mathlib.Core.List.{List, [], _∷_, List·Memᴰ, List·Memᴰ·head, List·Memᴰ·tail}
 use Prim.Native.Nat.{ℕ, _-_, _*_, _^_, _<_, _≤_}
@@ -10,7 +10,7 @@ use borrow.Author.Tests.{ltb-true, ltb-false}
 use lib.Bits.{bitOr}
 use lib.Dec.{ltb}
 use Rattle.meaning.specs.Tree.{and, or, Change, Target, Expr}
-use Rattle.meaning.specs.Numbers.{Variable, input, boolean, integer, Reads, bitOf, lowBits, wholeOf, combine, opposite, value}
+use Rattle.meaning.specs.Numbers.{Variable, input, boolean, integer, Reads, bitOf, lowBits, wholeOf, combine, value}
 use Rattle.meaning.specs.Tries.{Tries, noTries, without, tryBit, changed, bitAt, changeTries, tryBits, assignTries, allOnes, allZeros, agreed, taken}
 use Rattle.meaning.proofs.Bits.{bit-or, bit-without, bit-shifted, bit-below, bit-past, bit-turned, no-bit}
 use Rattle.meaning.proofs.LowBits.{low-lt}

@@ -1,12 +1,12 @@
 -- One clock: what each statement does, run from where it stands.
 -- Assumes nothing.
 use Prim.Native.Nat.{ℕ, zero, suc, _+_, max}
-use mathlib.Core.Bool.{Bool, true, false}
+use mathlib.Core.Bool.{Bool, true, false, cond}
 use mathlib.Core.List.{List, [], _∷_, _++_, map}
 use lib.Dec.{eqb}
 use lib.ListN.{length, getD, take, drop, replicate}
 use Rattle.meaning.specs.Tree.{Head, Stmt, skip, delay, change, assign, choice, while, loop, exit, break, switch, parallel, Stmts, end, _⨾_, Cases, default, case, Branches, none, _∥_}
-use Rattle.meaning.specs.Numbers.{Variable, Reads, choose, holds}
+use Rattle.meaning.specs.Numbers.{Variable, Reads, holds}
 use Rattle.meaning.specs.Tries.{Tries, noTries, changeTries, assignTries, agreed}
 
 -- "for each activity the statement or case test that it starts with next clock, with any delay clocks left, or that its branch has finished"
@@ -80,7 +80,7 @@ isAt n (at m left) = eqb n m
 -- one of the activities stands at the number
 unfoldable pub someAt : ℕ → List Entry → Bool
 someAt n [] = false
-someAt n (e ∷ es) = choose (isAt n e) true (someAt n es)
+someAt n (e ∷ es) = cond (isAt n e) true (someAt n es)
 
 -- one of the activities stands in the statement, the list, the cases, the branches
 unfoldable mutual
@@ -89,25 +89,25 @@ unfoldable mutual
   inside (delay h p n) es = someAt (h .number) es
   inside (change h c t) es = someAt (h .number) es
   inside (assign h v e) es = someAt (h .number) es
-  inside (choice h e a b) es = choose (someAt (h .number) es) true (choose (insideAll a es) true (insideAll b es))
-  inside (while h e b) es = choose (someAt (h .number) es) true (insideAll b es)
-  inside (loop h b) es = choose (someAt (h .number) es) true (insideAll b es)
+  inside (choice h e a b) es = cond (someAt (h .number) es) true (cond (insideAll a es) true (insideAll b es))
+  inside (while h e b) es = cond (someAt (h .number) es) true (insideAll b es)
+  inside (loop h b) es = cond (someAt (h .number) es) true (insideAll b es)
   inside (exit h) es = someAt (h .number) es
   inside (break h) es = someAt (h .number) es
-  inside (switch h cs) es = choose (someAt (h .number) es) true (insideCases cs es)
-  inside (parallel h bs) es = choose (someAt (h .number) es) true (insideSome bs es)
+  inside (switch h cs) es = cond (someAt (h .number) es) true (insideCases cs es)
+  inside (parallel h bs) es = cond (someAt (h .number) es) true (insideSome bs es)
 
   pub insideAll : {N : Type 0} → Stmts N → List Entry → Bool
   insideAll end es = false
-  insideAll (s ⨾ ss) es = choose (inside s es) true (insideAll ss es)
+  insideAll (s ⨾ ss) es = cond (inside s es) true (insideAll ss es)
 
   pub insideCases : {N : Type 0} → Cases N → List Entry → Bool
   insideCases (default d) es = insideAll d es
-  insideCases (case h e b cs) es = choose (someAt (h .number) es) true (choose (insideAll b es) true (insideCases cs es))
+  insideCases (case h e b cs) es = cond (someAt (h .number) es) true (cond (insideAll b es) true (insideCases cs es))
 
   pub insideSome : {N : Type 0} → Branches N → List Entry → Bool
   insideSome none es = false
-  insideSome (b ∥ bs) es = choose (insideAll b es) true (insideSome bs es)
+  insideSome (b ∥ bs) es = cond (insideAll b es) true (insideSome bs es)
 
 -- "The start, and any place after a wait, is the head of the next statement"
 abbrev pub standsAt : Head → After
@@ -195,7 +195,7 @@ finishing (waits t (stands es)) = false
 
 unfoldable pub each : (Outcome → Bool) → List Branch → Bool
 each p [] = true
-each p (b ∷ bs) = choose (p (b .outcome)) (each p bs) false
+each p (b ∷ bs) = cond (p (b .outcome)) (each p bs) false
 
 abbrev pub triesIn : Outcome → Tries
 triesIn finishes = noTries
@@ -224,8 +224,8 @@ entriesOf (b ∷ bs) = widened (b .wide) (entriesIn (b .outcome)) ++ entriesOf b
 abbrev pub joined : List Branch → Outcome
 joined bs =
     firstJump bs
-    (choose (each finished bs) finishes
-    (waits (agreed (map triesOf bs)) (choose (each finishing bs) done (stands (entriesOf bs)))))
+    (cond (each finished bs) finishes
+    (waits (agreed (map triesOf bs)) (cond (each finishing bs) done (stands (entriesOf bs)))))
 
 -- ---- a statement run from its start
 
@@ -235,8 +235,8 @@ unfoldable mutual
   start (delay h p n) r = delayed h n
   start (change h c t) r = waits (changeTries c t r) done
   start (assign h v e) r = waits (assignTries v e r) done
-  start (choice h e a b) r = choose (holds e r) (startAll a r) (startAll b r)
-  start (while h e b) r = choose (holds e r) (looped h (startAll b r)) finishes
+  start (choice h e a b) r = cond (holds e r) (startAll a r) (startAll b r)
+  start (while h e b) r = cond (holds e r) (looped h (startAll b r)) finishes
   start (loop h b) r = looped h (startAll b r)
   start (exit h) r = jumps out
   start (break h) r = jumps off
@@ -250,7 +250,7 @@ unfoldable mutual
   -- "each test is made when it is reached, perhaps clocks later; without `break` the default always runs"
   pub startCases : Cases Variable → Reads → Outcome
   startCases (default d) r = startAll d r
-  startCases (case h e b cs) r = choose (holds e r) (andThen (startAll b r) (startCases cs r) (firstCase cs)) (startCases cs r)
+  startCases (case h e b cs) r = cond (holds e r) (andThen (startAll b r) (startCases cs r) (firstCase cs)) (startCases cs r)
 
   pub startEach : Branches Variable → Reads → List Branch
   startEach none r = []
@@ -265,26 +265,26 @@ unfoldable mutual
   resume (change h c t) es r = start (change h c t) r
   resume (assign h v e) es r = start (assign h v e) r
   resume (choice h e a b) es r =
-      choose (someAt (h .number) es) (start (choice h e a b) r)
-      (choose (insideAll a es) (resumeAll a es r) (resumeAll b es r))
+      cond (someAt (h .number) es) (start (choice h e a b) r)
+      (cond (insideAll a es) (resumeAll a es r) (resumeAll b es r))
   resume (while h e b) es r =
-      choose (someAt (h .number) es) (start (while h e b) r) (again h (start (while h e b) r) (resumeAll b es r))
+      cond (someAt (h .number) es) (start (while h e b) r) (again h (start (while h e b) r) (resumeAll b es r))
   resume (loop h b) es r =
-      choose (someAt (h .number) es) (start (loop h b) r) (again h (start (loop h b) r) (resumeAll b es r))
+      cond (someAt (h .number) es) (start (loop h b) r) (again h (start (loop h b) r) (resumeAll b es r))
   resume (exit h) es r = start (exit h) r
   resume (break h) es r = start (break h) r
-  resume (switch h cs) es r = choose (someAt (h .number) es) (start (switch h cs) r) (caught (resumeCases cs es r))
-  resume (parallel h bs) es r = choose (someAt (h .number) es) (start (parallel h bs) r) (caught (joined (resumeEach bs es r)))
+  resume (switch h cs) es r = cond (someAt (h .number) es) (start (switch h cs) r) (caught (resumeCases cs es r))
+  resume (parallel h bs) es r = cond (someAt (h .number) es) (start (parallel h bs) r) (caught (joined (resumeEach bs es r)))
 
   pub resumeAll : Stmts Variable → List Entry → Reads → Outcome
   resumeAll end es r = finishes
-  resumeAll (s ⨾ ss) es r = choose (inside s es) (andThen (resume s es r) (startAll ss r) (first ss)) (resumeAll ss es r)
+  resumeAll (s ⨾ ss) es r = cond (inside s es) (andThen (resume s es r) (startAll ss r) (first ss)) (resumeAll ss es r)
 
   pub resumeCases : Cases Variable → List Entry → Reads → Outcome
   resumeCases (default d) es r = resumeAll d es r
   resumeCases (case h e b cs) es r =
-      choose (someAt (h .number) es) (startCases (case h e b cs) r)
-      (choose (insideAll b es) (andThen (resumeAll b es r) (startCases cs r) (firstCase cs)) (resumeCases cs es r))
+      cond (someAt (h .number) es) (startCases (case h e b cs) r)
+      (cond (insideAll b es) (andThen (resumeAll b es r) (startCases cs r) (firstCase cs)) (resumeCases cs es r))
 
   -- a branch that stands nowhere has finished
   pub resumeEach : Branches Variable → List Entry → Reads → List Branch

@@ -1,12 +1,12 @@
 -- What is declared, what each name then stands for, and the checked program.
 -- Assumes nothing.
 use Prim.Native.Nat.{ℕ, zero, suc, _+_, _*_, _%_, _^_}
-use mathlib.Core.Bool.{Bool, true, false}
+use mathlib.Core.Bool.{Bool, true, false, cond}
 use mathlib.Core.List.{List, [], _∷_}
 use mathlib.Core.Option.{Option, none, some}
 use lib.Dec.{eqb}
 use Rattle.meaning.specs.Tree.{Name, Stmts}
-use Rattle.meaning.specs.Numbers.{Variable, input, boolean, integer, choose}
+use Rattle.meaning.specs.Numbers.{Variable, input, boolean, integer}
 
 -- "the endings `.H` and `.L`": "the ending changes nothing yet"
 pub data Ending : Type 0 where
@@ -36,7 +36,7 @@ unfoldable pub sameBytes : List ℕ → List ℕ → Bool
 sameBytes [] [] = true
 sameBytes [] (y ∷ t) = false
 sameBytes (x ∷ s) [] = false
-sameBytes (x ∷ s) (y ∷ t) = choose (eqb x y) (sameBytes s t) false
+sameBytes (x ∷ s) (y ∷ t) = cond (eqb x y) (sameBytes s t) false
 
 abbrev pub one : Declaration → ℕ
 one (inputs n e) = 1
@@ -76,7 +76,7 @@ standsFor (integers n p w v) i o b = integer b w
 unfoldable pub lookFrom : List Declaration → List ℕ → ℕ → ℕ → ℕ → Option Variable
 lookFrom [] x i o b = none
 lookFrom (d ∷ ds) x i o b =
-    choose (sameBytes (nameOf d .bytes) x) (some (standsFor d i o b))
+    cond (sameBytes (nameOf d .bytes) x) (some (standsFor d i o b))
     (lookFrom ds x (one d + i) (anOutput d + o) (otherBits d + b))
 
 -- "Inputs are numbered by bits, first declared lowest"; of the value word the outputs take the low bits in declared order, and the others follow

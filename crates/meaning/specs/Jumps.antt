@@ -1,11 +1,10 @@
 -- Refusal 8: "`exit` or `break` with nothing to leave | the word".
 -- Assumes nothing.
 use Prim.Native.Nat.{ℕ}
-use mathlib.Core.Bool.{Bool, true, false}
+use mathlib.Core.Bool.{Bool, true, false, not as opposite}
 use mathlib.Core.List.{List, [], _∷_, _++_}
 use Rattle.meaning.specs.Tree.{Name, Stmt, skip, delay, change, assign, choice, while, loop, exit, break, switch, parallel, Stmts, end, _⨾_, Cases, default, case, Branches, none, _∥_}
 use Rattle.meaning.specs.Declared.{Source}
-use Rattle.meaning.specs.Numbers.{opposite}
 use Rattle.meaning.specs.Names.{when}
 
 -- inside a loop (for `exit`), and inside a switch or a parallel (for `break`)

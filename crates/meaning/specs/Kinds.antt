@@ -1,12 +1,12 @@
 -- Refusal 7: "wrong kind, an input changed, bit outside the width".
 -- Assumes nothing.
 use Prim.Native.Nat.{ℕ}
-use mathlib.Core.Bool.{Bool, true, false}
+use mathlib.Core.Bool.{Bool, true, false, cond, not as opposite}
 use mathlib.Core.List.{List, [], _∷_, _++_}
 use mathlib.Core.Option.{Option, none, some}
 use lib.Dec.{ltb}
 use Rattle.meaning.specs.Tree.{Name, Comparison, equal, unequal, greater, less, Expr, literal, truth, variable, bit, not, int, arithmetic, comparison, logic, Target, whole, part, Head, Stmt, skip, delay, change, assign, choice, while, loop, exit, break, switch, parallel}
-use Rattle.meaning.specs.Numbers.{Variable, input, boolean, integer, choose, opposite}
+use Rattle.meaning.specs.Numbers.{Variable, input, boolean, integer}
 use Rattle.meaning.specs.Declared.{Declaration, Source, lookUp}
 use Rattle.meaning.specs.Items.{Item, statement, test, itemsAll, partsOf}
 use Rattle.meaning.specs.Names.{gather, when}
@@ -27,7 +27,7 @@ sameKind truths k = isTruth k
 sameKind wholes k = isWhole k
 
 abbrev pub both : Bool → Bool → Bool
-both a b = choose a b false
+both a b = cond a b false
 
 -- a name's kind; one that is unknown is refused before this counts
 abbrev pub kindOfVariable : Option Variable → Kind

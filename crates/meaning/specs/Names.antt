@@ -1,11 +1,11 @@
 -- Refusal 6: "unknown name, or declared again | the name".
 -- Assumes nothing.
 use Prim.Native.Nat.{ℕ}
-use mathlib.Core.Bool.{Bool, true, false}
+use mathlib.Core.Bool.{Bool, true, false, cond}
 use mathlib.Core.List.{List, [], _∷_, _++_}
 use mathlib.Core.Option.{Option, none, some}
 use Rattle.meaning.specs.Tree.{Name, Expr, literal, truth, variable, bit, not, int, arithmetic, comparison, logic, Target, whole, part, Stmt, skip, delay, change, assign, choice, while, loop, exit, break, switch, parallel}
-use Rattle.meaning.specs.Numbers.{Variable, choose}
+use Rattle.meaning.specs.Numbers.{Variable}
 use Rattle.meaning.specs.Declared.{Declaration, Source, nameOf, sameBytes, lookUp}
 use Rattle.meaning.specs.Items.{Item, statement, test, itemsAll, partsOf}
 
@@ -25,7 +25,7 @@ missing (some a) = false
 
 unfoldable pub among : List ℕ → List Declaration → Bool
 among x [] = false
-among x (d ∷ ds) = choose (sameBytes (nameOf d .bytes) x) true (among x ds)
+among x (d ∷ ds) = cond (sameBytes (nameOf d .bytes) x) true (among x ds)
 
 -- "declared again": a name that a declaration before it has; "The program's name clashes with nothing."
 unfoldable pub againFrom : List Declaration → List Declaration → List ℕ

@@ -1,7 +1,7 @@
 -- Numbers: exact whole values, what a variable stands for, and what an expression comes to.
 -- Assumes nothing.
 use Prim.Native.Nat.{ℕ, zero, suc, _+_, _-_, _*_, _/_, _%_, _^_}
-use mathlib.Core.Bool.{Bool, true, false}
+use mathlib.Core.Bool.{Bool, true, false, cond, not as opposite}
 use lib.Dec.{eqb}
 use lib.IntN.{ℤ, pos, negsuc, _+ℤ_, _-ℤ_, _*ℤ_}
 use lib.Signed.{quotZ, remZ, ltZ}
@@ -54,14 +54,6 @@ abbrev pub boolOf : Value → Bool
 boolOf (whole z) = false
 boolOf (bool b) = b
 
-abbrev pub choose {ℓ} : {A : Type ℓ} → Bool → A → A → A
-choose true a b = a
-choose false a b = b
-
-abbrev pub opposite : Bool → Bool
-opposite true = false
-opposite false = true
-
 -- "An integer expression has its exact whole value"
 abbrev pub compute : Arithmetic → ℤ → ℤ → ℤ
 compute plus a b = a +ℤ b
@@ -76,7 +68,7 @@ sameBool false b = opposite b
 
 -- neither is less
 abbrev pub sameWhole : ℤ → ℤ → Bool
-sameWhole a b = choose (ltZ a b) false (opposite (ltZ b a))
+sameWhole a b = cond (ltZ a b) false (opposite (ltZ b a))
 
 -- `==` of two booleans or of two integers
 abbrev pub same : Value → Value → Bool
@@ -92,8 +84,8 @@ compare greater a b = ltZ (wholeOf b) (wholeOf a)
 compare less a b = ltZ (wholeOf a) (wholeOf b)
 
 abbrev pub combine : Logic → Bool → Bool → Bool
-combine and a b = choose a b false
-combine or a b = choose a true b
+combine and a b = cond a b false
+combine or a b = cond a true b
 
 -- `int`: "returns 1 if the expression is true and 0 if it is false"
 abbrev pub asNumber : Bool → ℤ

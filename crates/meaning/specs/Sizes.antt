@@ -1,13 +1,12 @@
 -- Refusal 9: "another size passed, or width 0 | the first name (for bits too), number, statement or part too many; the `parallel`".
 -- Assumes nothing.
 use Prim.Native.Nat.{ℕ, zero, suc, _+_}
-use mathlib.Core.Bool.{Bool, true, false}
+use mathlib.Core.Bool.{Bool, true, false, cond, not as opposite}
 use mathlib.Core.List.{List, [], _∷_, _++_, map}
 use lib.Dec.{leb, ltb, eqb}
 use lib.ListN.{drop}
 use Rattle.file_law.specs.Table.{mostInputs, mostOutputs}
 use Rattle.meaning.specs.Tree.{Name, Stmt, skip, delay, change, assign, choice, while, loop, exit, break, switch, parallel}
-use Rattle.meaning.specs.Numbers.{choose, opposite}
 use Rattle.meaning.specs.Clock.{headOf, activitiesSum}
 use Rattle.meaning.specs.States.{mostActivities}
 use Rattle.meaning.specs.Declared.{Declaration, inputs, outputs, internals, integers, Source, nameOf}
@@ -60,7 +59,7 @@ abbrev pub widthFault : Declaration → List ℕ
 widthFault (inputs n e) = []
 widthFault (outputs n e b) = []
 widthFault (internals n e b) = []
-widthFault (integers n p w v) = when (opposite (choose (leb 1 w) (leb w mostWidth) false)) p
+widthFault (integers n p w v) = when (opposite (cond (leb 1 w) (leb w mostWidth) false)) p
 
 abbrev pub statementPlace : Item → List ℕ
 statementPlace (statement s) = headOf s .place ∷ []

@@ -1,11 +1,11 @@
 -- Tries: which bits a clock is to set, and to what.
 -- Assumes nothing.
 use Prim.Native.Nat.{ℕ, _+_, _-_, _*_, _^_}
-use mathlib.Core.Bool.{Bool, true, false}
+use mathlib.Core.Bool.{Bool, true, false, cond}
 use mathlib.Core.List.{List, [], _∷_}
 use lib.Bits.{bitAnd, bitOr, bitXor}
 use Rattle.meaning.specs.Tree.{Change, raise, lower, invert, Target, whole, part, Expr}
-use Rattle.meaning.specs.Numbers.{Variable, input, boolean, integer, Reads, bitOf, lowBits, wholeOf, choose, value}
+use Rattle.meaning.specs.Numbers.{Variable, input, boolean, integer, Reads, bitOf, lowBits, wholeOf, value}
 
 -- "a set of tried bits": those tried with one, and those tried with zero
 pub record Tries : Type 0 where
@@ -28,7 +28,7 @@ tryBit j false = record { ones = 0; zeros = 2 ^ j }
 abbrev pub changed : Change → Bool → Bool
 changed raise was = true
 changed lower was = false
-changed invert was = choose was false true
+changed invert was = cond was false true
 
 abbrev pub bitAt : Target Variable → ℕ
 bitAt (whole (input i)) = 0
