@@ -1,2 +1,4 @@
 pub mod Runs
 pub mod Parts
+pub mod Least
+pub mod Spellings

@@ -5,6 +5,7 @@ ghost use Rattle.words.specs.Meaning.{stopOf};
 mod bytes;
 mod scan;
 mod starts;
+mod table;
 
 // A word: its kind by number (0 a name, 1 a number, 2 + k spelling k), where it starts and ends, and a number's value.
 pub struct Word {
