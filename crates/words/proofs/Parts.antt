@@ -14,6 +14,11 @@ use Rattle.language.specs.Words.{same, valueFrom}
 use Rattle.language.specs.Scan.{begins}
 use Rattle.words.specs.Runs.{part, cap}
 
+pub drop-past : (s : List ℕ) (a : ℕ) → length s ≤ a → drop a s ≡ []
+drop-past [] a h = drop-nil a
+drop-past (x ∷ s) zero h = absurd (omega arith)
+drop-past (x ∷ s) (suc a) h = drop-past s a (omega arith)
+
 pub part-length : (s : List ℕ) (a e : ℕ) → length (part s a e) ≡ min (e - a) (length s - a)
 unfolding part
 part-length s a e = simp (length-take, length-drop)
@@ -24,12 +29,7 @@ part-none s a e h = let z : e - a ≡ 0 = omega arith in rw z
 
 pub part-past : (s : List ℕ) (a e : ℕ) → length s ≤ a → part s a e ≡ []
 unfolding part
-part-past s a e h = rw (past s a h) (take-nil (e - a))
-  where
-    past : (s : List ℕ) (a : ℕ) → length s ≤ a → drop a s ≡ []
-    past [] a h = drop-nil a
-    past (x ∷ s) zero h = absurd (omega arith)
-    past (x ∷ s) (suc a) h = past s a (omega arith)
+part-past s a e h = rw (drop-past s a h) (take-nil (e - a))
 
 pub part-cons : (s : List ℕ) (a e : ℕ) → a < e → a < length s → part s a e ≡ getD s a 0 ∷ part s (a + 1) e
 unfolding part
@@ -70,12 +70,7 @@ module _ (s : List ℕ) (i : ℕ) (t : List ℕ) (j f : ℕ) where
 
   pub stands-short : j < f → j < length t → length s ≤ i → begins (drop i s) (part t j f) ≡ false
   unfolding begins
-  stands-short h k g = rw (part-cons t j f h k, past s i g)
-    where
-      past : (s : List ℕ) (a : ℕ) → length s ≤ a → drop a s ≡ []
-      past [] a h = drop-nil a
-      past (x ∷ s) zero h = absurd (omega arith)
-      past (x ∷ s) (suc a) h = past s a (omega arith)
+  stands-short h k g = rw (part-cons t j f h k, drop-past s i g)
 
   pub stands-past : length t ≤ j → begins (drop i s) (part t j f) ≡ true
   unfolding begins

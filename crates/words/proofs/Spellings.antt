@@ -45,15 +45,16 @@ same-not (x ∷ v) (y ∷ w) h = go (eqb x y) (same-not v w (λ e. h (ap suc e))
     go true q = q
     go false q = refl
 
+pub spelling-length : (row starts : List ℕ) (k : ℕ) → Table row starts → k < spellingCount → length (spelling k) ≡ getD starts (k + 1) 0 - getD starts k 0
+spelling-length row starts k t h =
+    ap length (sym (t .rule k h)) ∙ part-length row (getD starts k 0) (getD starts (k + 1) 0) ∙ omega (arith, t .inside k h, t .rises k h)
+
 module _ (row starts s : List ℕ) (at e k : ℕ) (t : Table row starts) (h : k < spellingCount) where
   abbrev b : ℕ
   b = getD starts k 0
 
   abbrev f : ℕ
   f = getD starts (k + 1) 0
-
-  pub spelling-length : length (spelling k) ≡ f - b
-  spelling-length = ap length (sym (t .rule k h)) ∙ part-length row b f ∙ omega (arith, t .inside k h, t .rises k h)
 
   word-length : at ≤ e → e ≤ length s → length (part s at e) ≡ e - at
   word-length g i = part-length s at e ∙ omega arith
@@ -66,10 +67,10 @@ module _ (row starts s : List ℕ) (at e k : ℕ) (t : Table row starts) (h : k 
   unfolding fitsAt
   fits-not g i j n =
       rw (le-ltb k signCount g)
-      (sym (same-not (part s at e) (spelling k) (λ q. n (sym (word-length i j) ∙ q ∙ spelling-length))))
+      (sym (same-not (part s at e) (spelling k) (λ q. n (sym (word-length i j) ∙ q ∙ spelling-length row starts k t h))))
 
   pub fits-word : signCount ≤ k → at ≤ e → e ≤ length s → e - at ≡ f - b → begins (drop at s) (part row b f) ≡ fitsAt s at e k
   unfolding fitsAt part
   fits-word g i j n =
       rw (le-ltb k signCount g)
-      (ap (begins (drop at s)) (t .rule k h) ∙ sym (same-begins (e - at) (drop at s) (spelling k) (word-length i j ∙ n ∙ sym spelling-length)))
+      (ap (begins (drop at s)) (t .rule k h) ∙ sym (same-begins (e - at) (drop at s) (spelling k) (word-length i j ∙ n ∙ sym (spelling-length row starts k t h))))

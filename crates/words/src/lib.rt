@@ -1,13 +1,20 @@
 // The words of a text: the next one from a place on, and refusal 4.
 ghost use mathlib.Core.Path.{_≡_};
-ghost use Rattle.words.specs.Meaning.{stopOf};
+ghost use mathlib.Core.Bool.{true, false};
+ghost use Prim.Native.Nat.{_<_};
+ghost use lib.ListN.{length, getD};
+ghost use Rattle.language.specs.Words.{letter, digit, same};
+ghost use Rattle.language.specs.Scan.{wordsOf};
+ghost use Rattle.words.specs.Runs.{part};
+ghost use Rattle.words.specs.Search.{Table};
+ghost use Rattle.words.specs.Meaning.{Stands, Answers, stopOf};
 
 mod bytes;
 mod scan;
 mod starts;
 mod table;
 
-// A word: its kind by number (0 a name, 1 a number, 2 + k spelling k), where it starts and ends, and a number's value.
+// A word: its kind by number (0 a name, 1 a number, the others as `starts` lists them), its place, the place behind it, and a number's value.
 pub struct Word {
     pub kind: u8,
     pub start: usize,
@@ -26,4 +33,85 @@ pub enum Next {
 pub enum Stop {
     At(usize),
     None,
+}
+
+// The reserved word or the name that starts at a place.
+fn name_at(row: &[u8], starts: &[u8; 62], s: &[u8], at: usize) -> Next
+    requires { ⌜ Table (now row) (now starts) × (at < length (now s)) × (letter (getD (now s) at 0) ≡ true) ⌝ }
+    ensures { λ r. ⌜ Stands (now (s .entry)) at r ⌝ }
+{
+    let end = scan::run_end(s, at, 2);
+    let k = table::first_fit(row, starts, s, at, end, table::SIGNS, table::SPELLINGS);
+    if k < table::SPELLINGS {
+        return Next::Found(Word {
+            kind: 2 + k as u8,
+            start: at,
+            end,
+            value: 0,
+        });
+    }
+    if end - at <= 16 {
+        return Next::Found(Word {
+            kind: 0,
+            start: at,
+            end,
+            value: 0,
+        });
+    }
+    Next::Stops(at)
+}
+
+// The number that starts at a place.
+fn number_at(s: &[u8], at: usize) -> Next
+    requires { ⌜ (at < length (now s)) × (letter (getD (now s) at 0) ≡ false) × (digit (getD (now s) at 0) ≡ true) ⌝ }
+    ensures { λ r. ⌜ Stands (now (s .entry)) at r ⌝ }
+{
+    let end = scan::run_end(s, at, 1);
+    let value = scan::value(s, at, end);
+    if value <= 65535 {
+        return Next::Found(Word {
+            kind: 1,
+            start: at,
+            end,
+            value,
+        });
+    }
+    Next::Stops(at)
+}
+
+// The sign that starts at a place.
+fn sign_at(row: &[u8], starts: &[u8; 62], s: &[u8], at: usize) -> Next
+    requires { ⌜ Table (now row) (now starts) × (at < length (now s)) × (letter (getD (now s) at 0) ≡ false) × (digit (getD (now s) at 0) ≡ false) ⌝ }
+    ensures { λ r. ⌜ Stands (now (s .entry)) at r ⌝ }
+{
+    let k = table::first_fit(row, starts, s, at, at, 0, table::SIGNS);
+    if k < table::SIGNS {
+        let b = starts[k] as usize;
+        let f = starts[k + 1] as usize;
+        return Next::Found(Word {
+            kind: 2 + k as u8,
+            start: at,
+            end: at + (f - b),
+            value: 0,
+        });
+    }
+    Next::Stops(at)
+}
+
+// The word that starts at a place.
+fn word_at(row: &[u8], starts: &[u8; 62], s: &[u8], at: usize) -> Next
+    requires { ⌜ Table (now row) (now starts) ⌝ }
+    ensures { λ r. ⌜ Stands (now (s .entry)) at r ⌝ }
+{
+    if s.len() <= at {
+        return Next::Over;
+    }
+    let c = s[at];
+    if bytes::is_letter(c) {
+        return name_at(row, starts, s, at);
+    }
+    if bytes::is_digit(c) {
+        return number_at(s, at);
+    }
+    sign_at(row, starts, s, at)
 }

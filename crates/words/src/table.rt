@@ -8,6 +8,7 @@ use crate::scan;
 
 // How many spellings there are, and how many of them, the first, are signs.
 pub const SIGNS: usize = 24;
+
 pub const SPELLINGS: usize = 61;
 
 // Whether spelling k stands at `at`: a sign, or the reserved word that ends at e.
@@ -27,7 +28,15 @@ fn fits(row: &[u8], starts: &[u8; 62], s: &[u8], at: usize, e: usize, k: usize) 
 }
 
 // The number of the first spelling from k on that stands at `at`, or last.
-pub fn first_fit(row: &[u8], starts: &[u8; 62], s: &[u8], at: usize, e: usize, k: usize, last: usize) -> usize
+pub fn first_fit(
+    row: &[u8],
+    starts: &[u8; 62],
+    s: &[u8],
+    at: usize,
+    e: usize,
+    k: usize,
+    last: usize,
+) -> usize
     requires { ⌜ Table (now row) (now starts) × (at ≤ e) × (e ≤ length (now s)) × (k ≤ last) × (last ≤ spellingCount) ⌝ }
     ensures { λ r. ⌜ r ≡ least (fitsAt (now (s .entry)) at e) (last - k) k ⌝ }
 {
