@@ -4,3 +4,7 @@ pub mod Least
 pub mod Spellings
 pub mod First
 pub mod Outcomes
+pub mod Below
+pub mod Tested
+pub mod Stopping
+pub mod Only

@@ -45,6 +45,18 @@ same-not (x ∷ v) (y ∷ w) h = go (eqb x y) (same-not v w (λ e. h (ap suc e))
     go true q = q
     go false q = refl
 
+-- two parts of a text
+module _ (s : List ℕ) (a b c d : ℕ) where
+  pub parts-differ : ¬ (min (b - a) (length s - a) ≡ min (d - c) (length s - c)) → same (part s a b) (part s c d) ≡ false
+  parts-differ h = same-not (part s a b) (part s c d) (λ e. h (sym (part-length s a b) ∙ e ∙ part-length s c d))
+
+  pub parts-stand : min (b - a) (length s - a) ≡ min (d - c) (length s - c) → begins (drop a s) (part s c d) ≡ same (part s a b) (part s c d)
+  unfolding part
+  parts-stand h = sym (same-begins (b - a) (drop a s) (part s c d) long)
+    where
+      long : length (take (b - a) (drop a s)) ≡ length (part s c d)
+      long = part-length s a b ∙ h ∙ sym (part-length s c d)
+
 pub spelling-length : (row starts : List ℕ) (k : ℕ) → Table row starts → k < spellingCount → length (spelling k) ≡ getD starts (k + 1) 0 - getD starts k 0
 spelling-length row starts k t h =
     ap length (sym (t .rule k h)) ∙ part-length row (getD starts k 0) (getD starts (k + 1) 0) ∙ omega (arith, t .inside k h, t .rises k h)

@@ -4,6 +4,7 @@ use mathlib.Core.Path.{_≡_}
 use mathlib.Core.List.{List}
 use Prim.Native.Nat.{ℕ, _≤_, _<_}
 use lib.ListN.{length, drop}
+use Rattle.language.specs.Words as Language
 use Rattle.language.specs.Words.{Kind, name, number, the, valueOf, Words, words, refused}
 use Rattle.language.specs.Scan as Scan
 use Rattle.language.specs.Scan.{found, stops, over, nextAt, nextWord}
@@ -19,9 +20,13 @@ use Rattle.words.specs.declared.Stop.the-variants.{At, None}
 abbrev pub bytesOf : List ℕ → Word → List ℕ
 bytesOf s w = part s (w .start) (w .end)
 
+-- .. and the word, as the language has it
+abbrev pub wordIn : List ℕ → Word → Language.Word
+wordIn s w = record { kind = numbered (w .kind); place = w .start; bytes = bytesOf s w }
+
 -- what comes next in a text, as the language has it
 abbrev pub meaning : List ℕ → Next → Scan.Next
-meaning s (Found w) = found (record { kind = numbered (w .kind); place = w .start; bytes = bytesOf s w })
+meaning s (Found w) = found (wordIn s w)
 meaning s (Stops e) = stops e
 meaning s Over = over
 

@@ -115,3 +115,41 @@ fn word_at(row: &[u8], starts: &[u8; 62], s: &[u8], at: usize) -> Next
     }
     sign_at(row, starts, s, at)
 }
+
+// The next word from a place on: for any bytes and any place.
+pub fn next_word(s: &[u8], from: usize) -> Next
+    ensures { λ r. ⌜ Answers (now (s .entry)) from r ⌝ }
+{
+    // The copies are made once a word: an index into a constant itself would copy it at every step of the search.
+    let row = starts::ROW;
+    let starts = starts::STARTS;
+    word_at(&row, &starts, s, scan::run_end(s, from, 0))
+}
+
+// The place of refusal 4 in the whole text.
+pub fn first_stop(s: &[u8]) -> Stop
+    ensures { λ r. ⌜ r ≡ stopOf (wordsOf (now (s .entry))) ⌝ }
+{
+    let mut from: usize = 0;
+    loop {
+        match next_word(s, from) {
+            Next::Found(w) => {
+                from = w.end;
+                continue;
+            }
+            Next::Stops(e) => return Stop::At(e),
+            Next::Over => return Stop::None,
+        }
+    }
+}
+
+// Whether two parts of a text, from a to b and from c to d, are the same bytes: for any numbers.
+pub fn same_name(s: &[u8], a: usize, b: usize, c: usize, d: usize) -> bool
+    ensures { λ r. ⌜ r ≡ same (part (now (s .entry)) a b) (part (now (s .entry)) c d) ⌝ }
+{
+    let n = s.len();
+    if scan::size(n, a, b) != scan::size(n, c, d) {
+        return false;
+    }
+    scan::stands(s, a, s, c, d)
+}

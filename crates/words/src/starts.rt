@@ -1,4 +1,10 @@
-// Where each spelling begins in the row of all of them, and where the last one ends; beside it the number of its kind, and the spelling.
+// The table of spellings: the signs, then the reserved words, in the language's order. Its rule is proved at every entry.
+
+// All spellings in one row.
+pub const ROW: [u8; 254] =
+    *b"|||!=!===:=:.H.L;,()[]><&+-*/%programendproginputoutputinternalintegertruefalseintskipdelayraiselowerinvertifthenelseendifwhiledoloopendloopexitswitchcasedefaultendswitchbreakparallelendparallelprocedureendprocprocessprocesstypeendtypecompressendcompress";
+
+// Where each spelling begins in the row, and where the last one ends; beside it the number of its kind, and the spelling.
 pub const STARTS: [u8; 62] = [
     0, // 2 ||
     2, // 3 |
