@@ -3,8 +3,12 @@ pub mod Parts
 pub mod Least
 pub mod Spellings
 pub mod First
+pub mod Counted
 pub mod Outcomes
+pub mod NameLaws
+pub mod NumberLaws
+pub mod SignLaws
 pub mod Below
 pub mod Tested
-pub mod Stopping
+pub mod Walk
 pub mod Only

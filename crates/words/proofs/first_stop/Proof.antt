@@ -7,7 +7,7 @@ use borrow.Author.Needs.{needs}
 use lib.ListN.{length}
 use Rattle.language.specs.Scan.{wordsFrom, wordsOf}
 use Rattle.words.specs.Meaning.{stopOf}
-use Rattle.words.proofs.Stopping.{sound, stop-later, stop-here, stop-nowhere}
+use Rattle.words.proofs.Walk.{sound, stop-later, stop-here, stop-nowhere}
 use Rattle.words.proofs.first_stop.Statement.{statement}
 use Rattle.words.proofs.first_stop.Tie as tie
 
@@ -29,14 +29,14 @@ enum-known-w c = search needs
 loop-less : tie.Need-loop-less Inv-loop μ-loop
 loop-less c =
     let f = c .before .before .before .next-word in
-    let w = sound (c .before .w .given .1) (f .ensures) in
+    let w = sound (f .ensures) (c .before .w .given .1) in
     omega arith
 
 loop-again : tie.Need-loop-again Inv-loop μ-loop
 loop-again c =
     let n = c .before .before .before in
     let i = n .before .loop .inv in
-    (sound (c .before .w .given .1) (n .next-word .ensures) .inside, stop-later (i .0) (i .1) (n .next-word .ensures) (c .before .w .given .1))
+    (sound (n .next-word .ensures) (c .before .w .given .1) .inside, stop-later (i .0) (i .1) (n .next-word .ensures) (c .before .w .given .1))
 
 enum-known-e : tie.Need-enum-known-e Inv-loop μ-loop
 enum-known-e c = search needs

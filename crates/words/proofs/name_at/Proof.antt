@@ -1,9 +1,8 @@
 -- `words::name_at` meets its contract.
 -- Assumes nothing.
-use mathlib.Core.Path.{refl}
 use native.Mathlib.Omega.{arith}
 use Rattle.words.proofs.Runs.{run-low, run-high}
-use Rattle.words.proofs.Outcomes.{reserved-word, name-short, name-long}
+use Rattle.words.proofs.NameLaws.{reserved-word, name-short, name-long}
 use borrow.Author.Needs.{needs}
 use Rattle.words.proofs.name_at.Statement.{statement}
 use Rattle.words.proofs.name_at.Tie as tie
@@ -25,7 +24,7 @@ add-t9 c = search needs
 returns : tie.Need-returns
 returns c =
     let o = c .before .before .before .before .before in
-    reserved-word (o .args .s .now) (o .args .at) (o .pre .1) (o .pre .2) _ (c .before .before .run-end .ensures) _ (c .before .first-fit .ensures) _ refl (c .if1 .taken)
+    reserved-word (o .args .s .now) (o .args .at) (o .pre .1) (o .pre .2) _ (c .before .before .run-end .ensures) _ (c .before .first-fit .ensures) (c .if1 .taken)
 
 sub-if2 : tie.Need-sub-if2
 sub-if2 c =

@@ -2,7 +2,7 @@
 -- Assumes nothing.
 use native.Mathlib.Omega.{arith}
 use Rattle.words.proofs.Runs.{run-high}
-use Rattle.words.proofs.Outcomes.{number-fits, number-large}
+use Rattle.words.proofs.NumberLaws.{number-fits, number-large}
 use borrow.Author.Needs.{needs}
 use Rattle.words.proofs.number_at.Statement.{statement}
 use Rattle.words.proofs.number_at.Tie as tie

@@ -1,10 +1,10 @@
 -- `words::sign_at` meets its contract.
 -- Assumes nothing.
-use mathlib.Core.Path.{refl, sym, ap}
+use mathlib.Core.Path.{sym, ap}
 use Prim.Native.Nat.{ℕ, _+_}
 use native.Mathlib.Omega.{arith}
 use Rattle.words.proofs.Spellings.{spelling-length}
-use Rattle.words.proofs.Outcomes.{sign-inside, sign-here, no-sign}
+use Rattle.words.proofs.SignLaws.{sign-inside, sign-here, no-sign}
 use borrow.Author.Needs.{needs}
 use Rattle.words.proofs.sign_at.Statement.{statement}
 use Rattle.words.proofs.sign_at.Tie as tie
@@ -55,7 +55,7 @@ returns c =
     let o = c .before .before .before .before .before .before in
     let f = c .before .before .before .first-fit in
     let a = o .args in
-    sign-here (a .s .now) (a .at) (o .pre .1) (o .pre .2) (o .pre .3) (f .result) (f .ensures) (c .before .before .if1 .taken) _ _ refl (ap (λ (n : ℕ). a .at + n) (sym (spelling-length (a .row .now) (a .starts .now) (f .result) (o .pre .0) (omega arith))))
+    sign-here (a .s .now) (a .at) (o .pre .1) (o .pre .2) (o .pre .3) (f .result) (f .ensures) (c .before .before .if1 .taken) _ (ap (λ (n : ℕ). a .at + n) (sym (spelling-length (a .row .now) (a .starts .now) (f .result) (o .pre .0) (omega arith))))
 
 returns-2 : tie.Need-returns-2
 returns-2 c =
