@@ -10,11 +10,12 @@ ghost use Rattle.words.specs.Search.{Table};
 ghost use Rattle.words.specs.Meaning.{Stands, Answers, stopOf};
 
 mod bytes;
+pub mod kinds;
 mod scan;
 mod starts;
 mod table;
 
-// A word: its kind by number (0 a name, 1 a number, the others as `starts` lists them), its place, the place behind it, and a number's value.
+// A word: its kind by number (`kinds`), its place, the place behind it, and a number's value.
 pub struct Word {
     pub kind: u8,
     pub start: usize,
@@ -52,7 +53,7 @@ fn name_at(row: &[u8], starts: &[u8; 62], s: &[u8], at: usize) -> Next
     }
     if end - at <= 16 {
         return Next::Found(Word {
-            kind: 0,
+            kind: kinds::NAME,
             start: at,
             end,
             value: 0,
@@ -70,7 +71,7 @@ fn number_at(s: &[u8], at: usize) -> Next
     let value = scan::value(s, at, end);
     if value <= 65535 {
         return Next::Found(Word {
-            kind: 1,
+            kind: kinds::NUMBER,
             start: at,
             end,
             value,

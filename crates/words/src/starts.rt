@@ -4,68 +4,68 @@
 pub const ROW: [u8; 254] =
     *b"|||!=!===:=:.H.L;,()[]><&+-*/%programendproginputoutputinternalintegertruefalseintskipdelayraiselowerinvertifthenelseendifwhiledoloopendloopexitswitchcasedefaultendswitchbreakparallelendparallelprocedureendprocprocessprocesstypeendtypecompressendcompress";
 
-// Where each spelling begins in the row, and where the last one ends; beside it the number of its kind, and the spelling.
+// Where each spelling begins in the row, and where the last one ends.
 pub const STARTS: [u8; 62] = [
-    0, // 2 ||
-    2, // 3 |
-    3, // 4 !=
-    5, // 5 !
-    6, // 6 ==
-    8, // 7 =
-    9, // 8 :=
-    11, // 9 :
-    12, // 10 .H
-    14, // 11 .L
-    16, // 12 ;
-    17, // 13 ,
-    18, // 14 (
-    19, // 15 )
-    20, // 16 [
-    21, // 17 ]
-    22, // 18 >
-    23, // 19 <
-    24, // 20 &
-    25, // 21 +
-    26, // 22 -
-    27, // 23 *
-    28, // 24 /
-    29, // 25 %
-    30, // 26 program
-    37, // 27 endprog
-    44, // 28 input
-    49, // 29 output
-    55, // 30 internal
-    63, // 31 integer
-    70, // 32 true
-    74, // 33 false
-    79, // 34 int
-    82, // 35 skip
-    86, // 36 delay
-    91, // 37 raise
-    96, // 38 lower
-    101, // 39 invert
-    107, // 40 if
-    109, // 41 then
-    113, // 42 else
-    117, // 43 endif
-    122, // 44 while
-    127, // 45 do
-    129, // 46 loop
-    133, // 47 endloop
-    140, // 48 exit
-    144, // 49 switch
-    150, // 50 case
-    154, // 51 default
-    161, // 52 endswitch
-    170, // 53 break
-    175, // 54 parallel
-    183, // 55 endparallel
-    194, // 56 procedure
-    203, // 57 endproc
-    210, // 58 process
-    217, // 59 processtype
-    228, // 60 endtype
-    235, // 61 compress
-    243, // 62 endcompress
+    0, // ||
+    2, // |
+    3, // !=
+    5, // !
+    6, // ==
+    8, // =
+    9, // :=
+    11, // :
+    12, // .H
+    14, // .L
+    16, // ;
+    17, // ,
+    18, // (
+    19, // )
+    20, // [
+    21, // ]
+    22, // >
+    23, // <
+    24, // &
+    25, // +
+    26, // -
+    27, // *
+    28, // /
+    29, // %
+    30, // program
+    37, // endprog
+    44, // input
+    49, // output
+    55, // internal
+    63, // integer
+    70, // true
+    74, // false
+    79, // int
+    82, // skip
+    86, // delay
+    91, // raise
+    96, // lower
+    101, // invert
+    107, // if
+    109, // then
+    113, // else
+    117, // endif
+    122, // while
+    127, // do
+    129, // loop
+    133, // endloop
+    140, // exit
+    144, // switch
+    150, // case
+    154, // default
+    161, // endswitch
+    170, // break
+    175, // parallel
+    183, // endparallel
+    194, // procedure
+    203, // endproc
+    210, // process
+    217, // processtype
+    228, // endtype
+    235, // compress
+    243, // endcompress
     254,
 ];
