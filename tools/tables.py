@@ -1,5 +1,5 @@
 #!/usr/bin/env python3
-# Makes crates/grammar_law/specs/Tables.antt from the grammar in crates/language/specs. Nothing rests on it: grammar_law tests every entry.
+# Makes crates/grammar_law/specs/Tables.antt and the tables of crates/grammar/src from the grammar in crates/language/specs. Nothing rests on it: grammar_law tests every entry, and grammar is proved against it.
 import os
 import re
 
@@ -162,4 +162,14 @@ starts = %s
          numbers('depth', 'how many calls deep a part goes before a level opens', depth),
          numbers('turn', 'how many turns a part takes at most before a word is read', turn))
 open(os.path.join(ROOT, 'grammar_law', 'specs', 'Tables.antt'), 'w').write(out)
+
+
+def const(module, comment, name, kind, values):
+    lines = ['// ' + comment, 'pub const %s: [%s; %d] = [' % (name, kind, len(values))]
+    lines += ['    %d,' % v for v in values] + ['];']
+    open(os.path.join(ROOT, 'grammar', 'src', module + '.rt'), 'w').write('\n'.join(lines) + '\n')
+
+
+const('rows', "The grammar's rows: kinds below 126, 126 opens a level, 127 closes one, parts from 128 on; a row ends at 0, and row 1 is the start. Made by tools/tables.py.", 'ROWS', 'u8', rows)
+const('starts', 'Where the row begins that a word calls for, 128 kinds to a part; 0 where there is none. Made by tools/tables.py.', 'STARTS', 'u16', starts)
 print('%d kinds, %d parts, %d bytes of rows, %d starts, depth %d, turns %d' % (len(kinds), len(parts), len(rows), len(starts), max(depth.values()), max(turn.values())))

@@ -11,6 +11,7 @@ const USAGE: &str = "usage: yardstick list < SOURCE
        yardstick file < SOURCE > TABLE
        yardstick batch < RECORDS
        yardstick gen SEED COUNT > RECORDS
+       yardstick front DIRECTORY < RECORDS
 a record is a line `LEN ROOM WORK BUF`, LEN bytes of source, and one LF";
 
 fn main() -> ExitCode {
@@ -20,6 +21,7 @@ fn main() -> ExitCode {
         ["list"] => list(),
         ["file"] => file(),
         ["batch"] => batch(),
+        ["front", directory] => front(directory),
         ["gen", seed, count] => match (seed.parse(), count.parse()) {
             (Ok(seed), Ok(count)) => generate(seed, count),
             _ => return usage(),
@@ -70,6 +72,24 @@ fn batch() -> io::Result<ExitCode> {
     let mut answers = io::BufWriter::new(io::stdout().lock());
     while let Some(record) = Record::read(&mut records)? {
         writeln!(answers, "{}", record.answer())?;
+    }
+    answers.flush()?;
+    Ok(ExitCode::SUCCESS)
+}
+
+/// Writes each record's source into a file of its own, and for each what a first pass says of it: a program, or 3, 4 or 5.
+fn front(directory: &str) -> io::Result<ExitCode> {
+    let mut records = BufReader::new(io::stdin().lock());
+    let mut answers = io::BufWriter::new(io::stdout().lock());
+    let mut number = 0;
+    while let Some(record) = Record::read(&mut records)? {
+        let path = format!("{directory}/{number:05}");
+        std::fs::write(&path, &record.source)?;
+        match compile(&record.source, Lent::AMPLE) {
+            Err(refusal) if refusal.number <= 5 => writeln!(answers, "{path}: {refusal}")?,
+            _ => writeln!(answers, "{path}: grammatical")?,
+        }
+        number += 1;
     }
     answers.flush()?;
     Ok(ExitCode::SUCCESS)

@@ -1,0 +1,48 @@
+-- `front_c::windnadel_check` meets its contract: the number of the first pass's own answer.
+-- Assumes nothing.
+use mathlib.Core.Path.{sym, ap}
+use Rattle.front_c.specs.Code.{codeOf}
+use borrow.Author.Needs.{needs}
+use Rattle.front_c.proofs.windnadel_check.Statement.{statement}
+use Rattle.front_c.proofs.windnadel_check.Tie as tie
+
+check-requires : tie.Need-check-requires
+check-requires c κs = search needs
+
+enum-told : tie.Need-enum-told
+enum-told c = search needs
+
+enum-known-checked : tie.Need-enum-known-checked
+enum-known-checked c = search needs
+
+cast-result : tie.Need-cast-result
+cast-result c = search needs
+
+mul-result : tie.Need-mul-result
+mul-result c = search needs
+
+cast-result-2 : tie.Need-cast-result-2
+cast-result-2 c = search needs
+
+add-result : tie.Need-add-result
+add-result c = search needs
+
+returns : tie.Need-returns
+returns c = record { answer = c .before .before .check .result; says = c .before .before .check .ensures; is = sym (ap codeOf (c .enum-told .given .1)) }
+
+returns-2 : tie.Need-returns-2
+returns-2 c = record { answer = c .before .before .before .check .result; says = c .before .before .before .check .ensures; is = sym (ap codeOf (c .before .checked .given .1)) }
+
+pub windnadel-check-spec : {M : Type 1} → statement M
+windnadel-check-spec =
+    tie.close
+    (tie.spec
+    check-requires
+    enum-told
+    enum-known-checked
+    cast-result
+    mul-result
+    cast-result-2
+    add-result
+    returns
+    returns-2)

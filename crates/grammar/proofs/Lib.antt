@@ -1,0 +1,4 @@
+pub mod Codes
+pub mod Along
+pub mod Answers
+pub mod Only

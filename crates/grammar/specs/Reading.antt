@@ -1,0 +1,65 @@
+-- The words of a text as a reader of tables goes along them, and what it promises.
+-- Assumes nothing.
+use mathlib.Core.Bool.{Bool, true, false}
+use mathlib.Core.Path.{_≡_}
+use mathlib.Core.List.{List, [], map}
+use Prim.Native.Nat.{ℕ, suc, _+_, _≤_}
+use lib.ListN.{length, getD, drop}
+use Rattle.ll1.specs.Rows.{row, closes, Tables, ReadTo, StopsAt}
+use Rattle.language.specs.Words.{Kind, Word, Words, words, refused}
+use Rattle.language.specs.Scan.{wordsFrom, wordsOf}
+use Rattle.language.specs.Grammar.{Line, placeOf}
+use Rattle.language.specs.Texts.{mostBytes}
+use Rattle.words.proofs.Only.{numberOf}
+use Rattle.grammar_law.specs.Tables.{depth, turn}
+use Rattle.grammar_law.specs.Codes.{codes, choice}
+use Rattle.grammar.specs.declared.Here.{Here}
+use Rattle.grammar.specs.declared.Got.{Got}
+
+-- the tables number the kinds from 1 on
+abbrev pub codeOf : Word → ℕ
+codeOf w = suc (numberOf (w .kind))
+
+-- the words, where no 4 ends them
+abbrev pub listed : Words → List Word
+listed (words ws) = ws
+listed (refused e) = []
+
+abbrev pub wordsIn : List ℕ → List Word
+wordsIn s = listed (wordsOf s)
+
+-- the numbers of their kinds
+abbrev pub codesIn : List ℕ → List ℕ
+codesIn s = map codeOf (wordsIn s)
+
+-- from a place on stand the words from number n on
+pub record Left (s : List ℕ) (from n : ℕ) : Type 0 where
+  pub fits : from ≤ length s
+  pub count : n ≤ length (wordsIn s)
+  pub rest : wordsFrom s from ≡ words (drop n (wordsIn s))
+
+-- a word that stands in the text, or its end
+pub record Stands (s : List ℕ) (w : Here) : Type 0 where
+  pub fits : w .number ≤ length (codesIn s)
+  pub kind : w .kind ≡ getD (codesIn s) (w .number) 0
+  pub place : w .place ≡ placeOf s (wordsIn s) (w .number)
+  pub inside : w .place ≤ length s
+  pub next : ¬ (w .kind ≡ 0) → Left s (w .next) (w .number + 1)
+
+-- the tables serve, row p closes the levels that it opens, the text is short, and the word stands in it
+pub record Ready (rows starts s : List ℕ) (p : ℕ) (w : Here) : Type 0 where
+  pub rows-fit : length rows ≤ 279
+  pub starts-fit : length starts ≤ 4352
+  pub tables : Tables codes choice depth turn rows starts
+  pub closed : closes 0 (row codes rows p) ≡ true
+  pub short : length s ≤ mostBytes
+  pub word : Stands s w
+
+-- from word i on, with k levels left, row a is read up to word e; or word e is the first that it lets no program have there
+abbrev pub Said : Line → List ℕ → ℕ → ℕ → ℕ → Bool → Type 0
+Said a s i k e true = ReadTo codes choice a (codesIn s) i k e
+Said a s i k e false = StopsAt codes choice a (codesIn s) i k e
+
+pub record Meets (a : Line) (s : List ℕ) (w : Here) (k : ℕ) (r : Got) : Type 0 where
+  pub word : Stands s (r .word)
+  pub said : Said a s (w .number) k (r .word .number) (r .ok)

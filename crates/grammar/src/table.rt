@@ -1,0 +1,31 @@
+// The two tables of the grammar, read at any place.
+ghost use mathlib.Core.Path.{_≡_};
+ghost use Prim.Native.Nat.{_-_, _≤_};
+ghost use lib.ListN.{length, getD};
+ghost use Rattle.ll1.specs.Rows.{firstPart, startOf};
+
+// The byte of the rows at a place; 0 past their end.
+pub fn symbol_at(rows: &[u8; 279], p: usize) -> u8
+    requires { ⌜ length (now rows) ≤ 279 ⌝ }
+    ensures { λ r. ⌜ r ≡ getD (now (rows .entry)) p 0 ⌝ }
+{
+    if p < 279 {
+        return rows[p];
+    }
+    0
+}
+
+// Where the row of part b begins that a word of kind t calls for; 0 where there is none.
+pub fn start_at(starts: &[u16; 4352], b: u8, t: u8) -> u16
+    requires { ⌜ (firstPart ≤ b) × (length (now starts) ≤ 4352) ⌝ }
+    ensures { λ r. ⌜ r ≡ startOf (now (starts .entry)) (b - firstPart) t ⌝ }
+{
+    if t >= 128 {
+        return 0;
+    }
+    let at = (b as usize - 128) * 128 + t as usize;
+    if at < 4352 {
+        return starts[at];
+    }
+    0
+}

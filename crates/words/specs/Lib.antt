@@ -1,0 +1,4 @@
+pub mod Kinds
+pub mod Runs
+pub mod Search
+pub mod Meaning

@@ -1,0 +1,95 @@
+// Parts of a text: where a run ends, what digits come to, whether one part stands in another text.
+ghost use mathlib.Core.Path.{_≡_};
+ghost use Prim.Native.Nat.{_+_, _-_, _*_, _<_, _≤_, min};
+ghost use lib.ListN.{length, drop};
+ghost use Rattle.language.specs.Words.{valueOf};
+ghost use Rattle.language.specs.Scan.{begins};
+ghost use Rattle.words.specs.Runs.{part, runEnd, cap};
+use crate::bytes;
+
+// The end of the run that starts at from: 0 blanks, 1 a number, 2 a name.
+pub fn run_end(s: &[u8], from: usize, run: u8) -> usize
+    ensures { λ r. ⌜ r ≡ runEnd (now (s .entry)) from run ⌝ }
+{
+    let mut i = from;
+    while i < s.len() {
+        if !bytes::goes_on(run, bytes::byte_at(s, i), bytes::byte_at(s, i + 1)) {
+            return i;
+        }
+        i += 1;
+    }
+    i
+}
+
+fn digit_value(c: u8) -> u32
+    ensures { λ r. ⌜ (r ≡ c - 48) × (r < 256) ⌝ }
+{
+    if c < b'0' {
+        return 0;
+    }
+    (c - b'0') as u32
+}
+
+// The value with one more digit, or 65,536 where it is larger.
+fn one_more(v: u32, c: u8) -> u32
+    requires { ⌜ v ≤ 65536 ⌝ }
+    ensures { λ r. ⌜ r ≡ cap (v * 10 + (c - 48)) ⌝ }
+{
+    let w = v * 10 + digit_value(c);
+    if w < 65536 {
+        return w;
+    }
+    65536
+}
+
+// The value of the digits from a to e, or 65,536 where it is larger.
+pub fn value(s: &[u8], a: usize, e: usize) -> u32
+    requires { ⌜ e ≤ length (now s) ⌝ }
+    ensures { λ r. ⌜ r ≡ cap (valueOf (part (now (s .entry)) a e)) ⌝ }
+{
+    let mut v: u32 = 0;
+    let mut i = a;
+    while i < e {
+        v = one_more(v, s[i]);
+        i += 1;
+    }
+    v
+}
+
+// Whether s goes on at `at` with the bytes of t from b to f.
+pub fn stands(s: &[u8], at: usize, t: &[u8], b: usize, f: usize) -> bool
+    ensures { λ r. ⌜ r ≡ begins (drop at (now (s .entry))) (part (now (t .entry)) b f) ⌝ }
+{
+    let mut i = at;
+    let mut j = b;
+    while j < f {
+        if t.len() <= j {
+            return true;
+        }
+        if s.len() <= i {
+            return false;
+        }
+        if s[i] != t[j] {
+            return false;
+        }
+        i += 1;
+        j += 1;
+    }
+    true
+}
+
+// How many bytes there are from a to b in a text of n.
+pub fn size(n: usize, a: usize, b: usize) -> usize
+    ensures { λ r. ⌜ r ≡ min (b - a) (n - a) ⌝ }
+{
+    if b <= a {
+        return 0;
+    }
+    if n <= a {
+        return 0;
+    }
+    if b <= n {
+        return b - a;
+    }
+    n - a
+}
