@@ -1,9 +1,9 @@
 -- No second answer meets the promise of the next word, and no two numbers are one kind.
 -- Assumes nothing.
-use mathlib.Core.Bool.{Bool, true, false}
+use mathlib.Core.Bool.{true, false}
 use mathlib.Core.Path.{_≡_, refl, sym, _∙_, ap}
 use mathlib.Core.List.{List, [], _∷_}
-use Prim.Native.Nat.{ℕ, zero, suc, _+_, _-_, _<_, _≤_}
+use Prim.Native.Nat.{ℕ, zero, suc, _-_, _<_}
 use Prim.Native.String.{String}
 use native.Mathlib.Omega.{arith}
 use lib.ListN.{length}
@@ -11,9 +11,9 @@ use lib.Dec.{eqb}
 use borrow.Author.Tests.{eqb-true}
 use Rattle.language.specs.Words as Language
 use Rattle.language.specs.Words.{bytes, signs, reserved, same, Kind, name, number, the}
-use Rattle.language.specs.Scan.{found, nextWord}
+use Rattle.language.specs.Scan.{found}
 use Rattle.words.specs.Kinds.{spellings, spelling, spellingCount, numbered, kindCount}
-use Rattle.words.specs.Meaning.{bytesOf, wordIn, meaning, worth, Sound, Answers}
+use Rattle.words.specs.Meaning.{bytesOf, wordIn, worth, Sound, Answers}
 use Rattle.words.specs.declared.Word.{Word}
 use Rattle.words.specs.declared.Next.{Next}
 use Rattle.words.specs.declared.Next.the-variants.{Found, Stops, Over}

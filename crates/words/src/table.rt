@@ -2,7 +2,7 @@
 ghost use mathlib.Core.Path.{_≡_};
 ghost use Prim.Native.Nat.{_-_, _<_, _≤_};
 ghost use lib.ListN.{length};
-ghost use Rattle.words.specs.Kinds.{signCount, spellingCount};
+ghost use Rattle.words.specs.Kinds.{spellingCount};
 ghost use Rattle.words.specs.Search.{Table, fitsAt, least};
 use crate::scan;
 
