@@ -1,6 +1,6 @@
 -- `words::table::first_fit` meets its contract: the first from `i` on is the first from `k` on.
 -- Assumes nothing.
-use mathlib.Core.Path.{_≡_, refl, sym, _∙_}
+use mathlib.Core.Path.{_≡_, refl}
 use Prim.Native.Nat.{_-_}
 use native.Mathlib.Omega.{arith}
 use Rattle.words.specs.Search.{fitsAt, least}
@@ -27,7 +27,7 @@ returns c =
     let f = c .before in
     let l = f .before .before in
     let a = l .before .before .before .args in
-    least-here (fitsAt (a .s .now) (a .at) (a .e)) (a .last) (l .loop .i) _ (f .before .loop-test .taken) (sym (f .fits2 .ensures) ∙ c .if1 .taken) (l .loop .inv)
+    least-here (fitsAt (a .s .now) (a .at) (a .e)) (a .last) (l .loop .i) _ (f .before .loop-test .taken) (f .fits2 .ensures) (c .if1 .taken) (l .loop .inv)
 
 add-i : tie.Need-add-i Inv-loop μ-loop
 add-i c = omega arith
@@ -40,7 +40,7 @@ loop-again c =
     let f = c .before in
     let l = f .before .before in
     let a = l .before .before .before .args in
-    least-on (fitsAt (a .s .now) (a .at) (a .e)) (a .last) (l .loop .i) _ (f .before .loop-test .taken) (sym (f .fits2 .ensures) ∙ c .if1 .left) (l .loop .inv)
+    least-on (fitsAt (a .s .now) (a .at) (a .e)) (a .last) (l .loop .i) _ (f .before .loop-test .taken) (f .fits2 .ensures) (c .if1 .left) (l .loop .inv)
 
 returns-2 : tie.Need-returns-2 Inv-loop μ-loop
 returns-2 c =
