@@ -9,6 +9,7 @@ use native.Mathlib.Omega.{arith}
 use lib.ListN.{length}
 use lib.Dec.{eqb}
 use borrow.Author.Tests.{eqb-true}
+use Rattle.file_law.specs.Answer.{every}
 use Rattle.language.specs.Words as Language
 use Rattle.language.specs.Words.{bytes, signs, reserved, same, Kind, name, number, the}
 use Rattle.language.specs.Scan.{found}
@@ -18,7 +19,7 @@ use Rattle.words.specs.declared.Word.{Word}
 use Rattle.words.specs.declared.Next.{Next}
 use Rattle.words.specs.declared.Next.the-variants.{Found, Stops, Over}
 use Rattle.words.proofs.Parts.{part-length}
-use Rattle.words.proofs.Below.{below, each}
+use Rattle.words.proofs.Tested.{each}
 
 -- ---- a kind has one number
 
@@ -32,8 +33,8 @@ numberOf name = 0
 numberOf number = 1
 numberOf (the s) = suc (suc (place (bytes s) spellings))
 
-places : below (λ k. eqb (place (spelling k) spellings) k) spellingCount ≡ true
-unfolding bytes signs reserved same spellings spelling
+places : every (λ k. eqb (place (spelling k) spellings) k) spellingCount 0 ≡ true
+unfolding every bytes signs reserved same spellings spelling
 places = refl
 
 pub number-back : (k : ℕ) → k < kindCount → numberOf (numbered k) ≡ k
