@@ -1,7 +1,7 @@
 -- The first spelling that passes a test, by its number and by its kind.
 -- Assumes nothing.
-use mathlib.Core.Bool.{Bool, true, false, not, _&&_, cond}
-use mathlib.Core.Path.{_≡_, refl, sym, _∙_, ap, ap₂}
+use mathlib.Core.Bool.{Bool, true, false, not, cond}
+use mathlib.Core.Path.{_≡_, refl, sym, _∙_, ap}
 use mathlib.Core.List.{List, [], _∷_, _++_}
 use mathlib.Core.Option.{Option, none, some}
 use Prim.Native.Nat.{ℕ, zero, suc, _+_, _-_, _<_, _≤_}
@@ -9,31 +9,12 @@ use Prim.Native.String.{String}
 use native.Mathlib.Nat.{add-zero, add-suc, suc-add}
 use native.Mathlib.Omega.{arith}
 use lib.ListN.{length, getD, take}
-use lib.Dec.{eqb}
-use borrow.Author.Tests.{eq-eqb, eqb-true}
 use Rattle.ll1.proofs.Sets.{clash}
 use Rattle.file_law.specs.Answer.{unless, firstNot}
 use Rattle.language.specs.Words.{bytes, same, firstOf}
 use Rattle.language.specs.Scan.{begins}
 use Rattle.language.proofs.Signs.{begins-take}
-
--- ---- the same bytes
-
-pub same-self : (w : List ℕ) → same w w ≡ true
-unfolding same
-same-self [] = refl
-same-self (x ∷ w) = rw (eq-eqb x x refl) (same-self w)
-
-pub same-true : (v w : List ℕ) → same v w ≡ true → v ≡ w
-unfolding same
-same-true [] [] e = refl
-same-true [] (y ∷ w) e = clash (sym e)
-same-true (x ∷ v) [] e = clash (sym e)
-same-true (x ∷ v) (y ∷ w) e = go (eqb x y) refl (same-true v w) e
-  where
-    go : (b : Bool) → eqb x y ≡ b → (same v w ≡ true → v ≡ w) → b && same v w ≡ true → x ∷ v ≡ y ∷ w
-    go true f more g = ap₂ _∷_ (eqb-true x y f) (more g)
-    go false f more g = clash (sym g)
+use Rattle.words.proofs.Same.{same-self, same-true}
 
 -- ---- by its number
 

@@ -1,5 +1,6 @@
 pub mod Runs
 pub mod Parts
+pub mod Same
 pub mod Spellings
 pub mod First
 pub mod Counted

@@ -15,7 +15,7 @@ use Rattle.language.specs.Words.{same}
 use Rattle.words.specs.Kinds.{spellingCount, spelling}
 use Rattle.words.specs.Runs.{part}
 use Rattle.words.specs.Search.{Table}
-use Rattle.words.proofs.First.{same-true}
+use Rattle.words.proofs.Same.{same-true}
 
 -- one computed test gives what it says at each number
 pub each : (p : ℕ → Bool) (n : ℕ) → every p n 0 ≡ true → (k : ℕ) → k < n → p k ≡ true

@@ -1,12 +1,12 @@
 -- `words::table::first_fit` meets its contract: the first from `i` on is the first from `k` on.
 -- Assumes nothing.
-use mathlib.Core.Path.{_≡_, refl, sym, _∙_, ap}
-use mathlib.Core.Bool.{not}
+use mathlib.Core.Path.{_≡_, refl, sym, _∙_}
 use Prim.Native.Nat.{_-_}
 use native.Mathlib.Omega.{arith}
 use Rattle.file_law.specs.Answer.{firstNot}
 use Rattle.file_law.proofs.Every.{stops, goes, ends}
 use Rattle.words.specs.Search.{missesAt}
+use Rattle.words.proofs.Spellings.{misses}
 use Rattle.words.proofs.table.first_fit.Statement.{statement}
 use Rattle.words.proofs.table.first_fit.Tie as tie
 
@@ -29,7 +29,7 @@ returns c =
     let f = c .before in
     let l = f .before .before in
     let a = l .before .before .before .args in
-    sym (stops (missesAt (a .s .now) (a .at) (a .e)) (a .last) (l .loop .i) (f .before .loop-test .taken) (ap not (sym (f .fits2 .ensures) ∙ c .if1 .taken))) ∙ l .loop .inv
+    sym (stops (missesAt (a .s .now) (a .at) (a .e)) (a .last) (l .loop .i) (f .before .loop-test .taken) (misses (a .s .now) (a .at) (a .e) (l .loop .i) (f .fits2 .ensures) (c .if1 .taken))) ∙ l .loop .inv
 
 add-i : tie.Need-add-i Inv-loop μ-loop
 add-i c = omega arith
@@ -42,7 +42,7 @@ loop-again c =
     let f = c .before in
     let l = f .before .before in
     let a = l .before .before .before .args in
-    sym (goes (missesAt (a .s .now) (a .at) (a .e)) (a .last) (l .loop .i) (f .before .loop-test .taken) (ap not (sym (f .fits2 .ensures) ∙ c .if1 .left))) ∙ l .loop .inv
+    sym (goes (missesAt (a .s .now) (a .at) (a .e)) (a .last) (l .loop .i) (f .before .loop-test .taken) (misses (a .s .now) (a .at) (a .e) (l .loop .i) (f .fits2 .ensures) (c .if1 .left))) ∙ l .loop .inv
 
 returns-2 : tie.Need-returns-2 Inv-loop μ-loop
 returns-2 c =
