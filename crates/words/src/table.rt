@@ -7,9 +7,10 @@ ghost use Rattle.words.specs.Kinds.{spellingCount};
 ghost use Rattle.words.specs.Search.{Table, fitsAt, missesAt};
 use crate::scan;
 
-// How many spellings there are, and how many of them, the first, are signs.
+// The first so many spellings are signs.
 pub const SIGNS: usize = 24;
 
+// How many there are, with the reserved words.
 pub const SPELLINGS: usize = 61;
 
 // Whether spelling k stands at `at`: a sign, or the reserved word that ends at e.
