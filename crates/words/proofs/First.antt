@@ -1,7 +1,7 @@
 -- The first spelling that passes a test, by its number and by its kind.
 -- Assumes nothing.
-use mathlib.Core.Bool.{Bool, true, false, true≢false, _&&_, cond}
-use mathlib.Core.Path.{_≡_, refl, sym, _∙_, ap, ap₂}
+use mathlib.Core.Bool.{Bool, true, false, not, cond}
+use mathlib.Core.Path.{_≡_, refl, sym, _∙_, ap}
 use mathlib.Core.List.{List, [], _∷_, _++_}
 use mathlib.Core.Option.{Option, none, some}
 use Prim.Native.Nat.{ℕ, zero, suc, _+_, _-_, _<_, _≤_}
@@ -9,34 +9,12 @@ use Prim.Native.String.{String}
 use native.Mathlib.Nat.{add-zero, add-suc, suc-add}
 use native.Mathlib.Omega.{arith}
 use lib.ListN.{length, getD, take}
-use lib.Dec.{eqb}
-use borrow.Author.Tests.{eq-eqb, eqb-true}
+use Rattle.ll1.proofs.Sets.{clash}
+use Rattle.file_law.specs.Answer.{unless, firstNot}
 use Rattle.language.specs.Words.{bytes, same, firstOf}
 use Rattle.language.specs.Scan.{begins}
 use Rattle.language.proofs.Signs.{begins-take}
-use Rattle.words.specs.Search.{least}
-use Rattle.words.proofs.Least.{least-low}
-
-pub clash : {A : Type 0} {b : Bool} → b ≡ true → b ≡ false → A
-clash e f = absurd (true≢false (sym e ∙ f))
-
--- ---- the same bytes
-
-pub same-self : (w : List ℕ) → same w w ≡ true
-unfolding same
-same-self [] = refl
-same-self (x ∷ w) = rw (eq-eqb x x refl) (same-self w)
-
-pub same-true : (v w : List ℕ) → same v w ≡ true → v ≡ w
-unfolding same
-same-true [] [] e = refl
-same-true [] (y ∷ w) e = clash e refl
-same-true (x ∷ v) [] e = clash e refl
-same-true (x ∷ v) (y ∷ w) e = go (eqb x y) refl (same-true v w) e
-  where
-    go : (b : Bool) → eqb x y ≡ b → (same v w ≡ true → v ≡ w) → b && same v w ≡ true → x ∷ v ≡ y ∷ w
-    go true f more g = ap₂ _∷_ (eqb-true x y f) (more g)
-    go false f more g = clash g refl
+use Rattle.words.proofs.Same.{same-self, same-true}
 
 -- ---- by its number
 
@@ -58,23 +36,32 @@ nth-none [] j h = refl
 nth-none (s ∷ ss) zero h = absurd (omega arith)
 nth-none (s ∷ ss) (suc j) h = nth-none ss j (omega arith)
 
--- the first of some strings has the least number that passes, counted from `base`
-pub first-least : (p : ℕ → Bool) (q : List ℕ → Bool) (ss : List String) (base : ℕ) → ((j : ℕ) → j < length ss → p (base + j) ≡ q (bytes (getD ss j "")))
-    → firstOf q ss ≡ nth ss (least p (length ss) base - base)
-unfolding firstOf nth least
-first-least p q [] base f = refl
-first-least p q (s ∷ ss) base f =
+pub not-before : (p : ℕ → Bool) (n i : ℕ) → i ≤ firstNot p n i
+unfolding firstNot
+not-before p zero i = omega arith
+not-before p (suc n) i = go (p i) (not-before p n (suc i))
+  where
+    go : (b : Bool) → suc i ≤ firstNot p n (suc i) → i ≤ unless b i (firstNot p n (suc i))
+    go true h = omega arith
+    go false h = omega arith
+
+-- the first of some strings that passes has the first number, counted from `base`, that does not miss
+pub first-number : (p : ℕ → Bool) (q : List ℕ → Bool) (ss : List String) (base : ℕ) → ((j : ℕ) → j < length ss → p (base + j) ≡ not (q (bytes (getD ss j ""))))
+    → firstOf q ss ≡ nth ss (firstNot p (length ss) base - base)
+unfolding firstOf nth firstNot
+first-number p q [] base f = refl
+first-number p q (s ∷ ss) base f =
     go (p base) (q (bytes s)) (ap p (sym (add-zero base)) ∙ f 0 (omega arith))
-    (first-least p q ss (suc base) (λ j h. ap p (suc-add base j ∙ sym (add-suc base j)) ∙ f (suc j) (omega arith)))
+    (first-number p q ss (suc base) (λ j h. ap p (suc-add base j ∙ sym (add-suc base j)) ∙ f (suc j) (omega arith)))
   where
     r : ℕ
-    r = least p (length ss) (suc base)
+    r = firstNot p (length ss) (suc base)
 
-    go : (a b : Bool) → a ≡ b → firstOf q ss ≡ nth ss (r - suc base) → elim b [ true ↦ some s | false ↦ firstOf q ss ] ≡ nth (s ∷ ss) (elim a [ true ↦ base | false ↦ r ] - base)
-    go true true e g = let z : base - base ≡ 0 = omega arith in rw z
-    go true false e g = clash refl e
-    go false true e g = clash e refl
-    go false false e g = let z : r - base ≡ suc (r - suc base) = omega (arith, least-low p (length ss) (suc base)) in rw z g
+    go : (a b : Bool) → a ≡ not b → firstOf q ss ≡ nth ss (r - suc base) → elim b [ true ↦ some s | false ↦ firstOf q ss ] ≡ nth (s ∷ ss) (unless a base r - base)
+    go true true e g = clash e
+    go true false e g = let z : r - base ≡ suc (r - suc base) = omega (arith, not-before p (length ss) (suc base)) in rw z g
+    go false true e g = let z : base - base ≡ 0 = omega arith in rw z
+    go false false e g = clash (sym e)
 
 -- ---- by its first byte
 
@@ -91,8 +78,8 @@ skips q w (s ∷ ss) rest e h = go (q (getD (bytes s) 0 0)) (same w (bytes s)) r
   where
     go : (a b : Bool) → q (getD (bytes s) 0 0) ≡ a → same w (bytes s) ≡ b → (noneOpens q ss ≡ true → firstOf (same w) (ss ++ rest) ≡ firstOf (same w) rest) → cond a false (noneOpens q ss) ≡ true
         → elim b [ true ↦ some s | false ↦ firstOf (same w) (ss ++ rest) ] ≡ firstOf (same w) rest
-    go true b f g more e = clash e refl
-    go false true f g more e = clash (ap (λ (v : List ℕ). q (getD v 0 0)) (sym (same-true w (bytes s) g)) ∙ h) f
+    go true b f g more e = clash (sym e)
+    go false true f g more e = clash (sym h ∙ ap (λ (v : List ℕ). q (getD v 0 0)) (same-true w (bytes s) g) ∙ f)
     go false false f g more e = more e
 
 -- ---- the first that a text begins with
@@ -115,6 +102,6 @@ first-same l (s ∷ ss) rest g e t = go (begins l (bytes s)) (same (bytes g) (by
     go : (a b : Bool) → begins l (bytes s) ≡ a → same (bytes g) (bytes s) ≡ b → (firstOf (begins l) ss ≡ some g → firstOf (same (bytes g)) (ss ++ rest) ≡ some g) → elim a [ true ↦ some s | false ↦ firstOf (begins l) ss ] ≡ some g
         → elim b [ true ↦ some s | false ↦ firstOf (same (bytes g)) (ss ++ rest) ] ≡ some g
     go true true f h more e = e
-    go true false f h more e = let z : s ≡ g = cc in clash (ap (λ (x : String). same (bytes g) (bytes x)) z ∙ same-self (bytes g)) h
-    go false true f h more e = clash (ap (begins l) (sym (same-true (bytes g) (bytes s) h) ∙ sym t) ∙ begins-take (length (bytes g)) l) f
+    go true false f h more e = let z : s ≡ g = cc in clash (sym (same-self (bytes g)) ∙ ap (λ (x : String). same (bytes g) (bytes x)) (sym z) ∙ h)
+    go false true f h more e = clash (sym (begins-take (length (bytes g)) l) ∙ ap (begins l) (t ∙ same-true (bytes g) (bytes s) h) ∙ f)
     go false false f h more e = more e

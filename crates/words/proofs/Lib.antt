@@ -1,6 +1,6 @@
 pub mod Runs
 pub mod Parts
-pub mod Least
+pub mod Same
 pub mod Spellings
 pub mod First
 pub mod Counted
@@ -8,7 +8,6 @@ pub mod Outcomes
 pub mod NameLaws
 pub mod NumberLaws
 pub mod SignLaws
-pub mod Below
 pub mod Tested
 pub mod Walk
 pub mod Only

@@ -1,6 +1,6 @@
 -- A word that begins with a letter: a reserved word, a name, or too long a name.
 -- Assumes nothing.
-use mathlib.Core.Bool.{true, false}
+use mathlib.Core.Bool.{true, false, not}
 use mathlib.Core.Path.{_≡_, refl, sym, _∙_, ap}
 use mathlib.Core.List.{List}
 use mathlib.Core.Option.{Option}
@@ -10,17 +10,18 @@ use native.Mathlib.Decide.{decLe}
 use native.Mathlib.Omega.{arith}
 use lib.ListN.{length, getD, drop}
 use borrow.Author.Tests.{lt-leb, le-leb, lt-ltb, le-ltb}
+use Rattle.ll1.proofs.Sets.{clash}
+use Rattle.file_law.specs.Answer.{firstNot}
 use Rattle.language.specs.Words.{bytes, letter, digit, inName, signs, reserved, same, firstOf, spelled, kindOf, tooLarge, longestName, name, the}
 use Rattle.language.specs.Scan.{wordLength}
 use Rattle.words.specs.Kinds.{spellings, spelling, signCount, spellingCount, numbered}
 use Rattle.words.specs.Runs.{part, goesOn, runEnd}
-use Rattle.words.specs.Search.{fitsAt, least}
+use Rattle.words.specs.Search.{fitsAt, missesAt}
 use Rattle.words.specs.Meaning.{Stands}
 use Rattle.words.specs.declared.Next.the-variants.{Found, Stops}
 use Rattle.words.proofs.Runs.{span-some, run-high}
 use Rattle.words.proofs.Parts.{part-length}
-use Rattle.words.proofs.Least.{least-low}
-use Rattle.words.proofs.First.{clash, nth, nth-some, nth-none, first-least, noneOpens, skips}
+use Rattle.words.proofs.First.{not-before, nth, nth-some, nth-none, first-number, noneOpens, skips}
 use Rattle.words.proofs.Counted.{reserved-length, reserved-at, numbered-spelled}
 use Rattle.words.proofs.Outcomes.{front, opens, large-word, word-here}
 
@@ -32,7 +33,7 @@ letter-no-digit c e = go (decLe c 57)
     low h = simp (lt-leb 65 c (omega arith), lt-leb 97 c (omega arith))
 
     go : Dec (c ≤ 57) → digit c ≡ false
-    go (yes h) = clash e (low h)
+    go (yes h) = clash (sym e ∙ low h)
     go (no h) = simp (le-leb 48 c (omega arith), lt-leb c 57 (omega arith))
 
 no-sign-letter : noneOpens letter signs ≡ true
@@ -44,7 +45,7 @@ unfolding kindOf
 letter-kind w h = rw (skips letter w signs reserved no-sign-letter h, letter-no-digit (getD w 0 0) h)
 
 -- the word ends at e; k is the number of its spelling, 61 for none
-module _ (s : List ℕ) (at : ℕ) (h : at < length s) (l : letter (getD s at 0) ≡ true) (e : ℕ) (q : e ≡ runEnd s at 2) (k : ℕ) (r : k ≡ least (fitsAt s at e) (spellingCount - signCount) signCount) where
+module _ (s : List ℕ) (at : ℕ) (h : at < length s) (l : letter (getD s at 0) ≡ true) (e : ℕ) (q : e ≡ runEnd s at 2) (k : ℕ) (r : k ≡ firstNot (missesAt s at e) (spellingCount - signCount) signCount) where
   long : wordLength (drop at s) ≡ e - at
   unfolding wordLength runEnd goesOn
   long = rw (front s at h, l) (omega (arith, q))
@@ -56,16 +57,16 @@ module _ (s : List ℕ) (at : ℕ) (h : at < length s) (l : letter (getD s at 0)
   inside : e ≤ length s
   inside = omega (arith, q, run-high s at 2 (omega arith))
 
-  test : (j : ℕ) → j < length reserved → fitsAt s at e (signCount + j) ≡ same (part s at e) (bytes (getD reserved j ""))
+  test : (j : ℕ) → j < length reserved → missesAt s at e (signCount + j) ≡ not (same (part s at e) (bytes (getD reserved j "")))
   unfolding fitsAt spelling
-  test j g = rw (le-ltb (signCount + j) signCount (omega arith)) (ap (λ (x : String). same (part s at e) (bytes x)) (reserved-at j))
+  test j g = rw (le-ltb (signCount + j) signCount (omega arith)) (ap (λ (x : String). not (same (part s at e) (bytes x))) (reserved-at j))
 
   kind : kindOf (part s at e) ≡ spelled (nth reserved (k - signCount)) name
   kind =
       letter-kind (part s at e) (ap letter (opens s at h e some) ∙ l)
       ∙ ap (λ (o : Option String). spelled o name)
-      (first-least (fitsAt s at e) (same (part s at e)) reserved signCount test
-      ∙ ap (λ (i : ℕ). nth reserved (i - signCount)) (ap (λ (n : ℕ). least (fitsAt s at e) n signCount) reserved-length ∙ sym r))
+      (first-number (missesAt s at e) (same (part s at e)) reserved signCount test
+      ∙ ap (λ (i : ℕ). nth reserved (i - signCount)) (ap (λ (n : ℕ). firstNot (missesAt s at e) n signCount) reserved-length ∙ sym r))
 
   pub reserved-word : k < spellingCount → Stands s at (Found (record { kind = 2 + k; start = at; end = e; value = 0 }))
   unfolding spelled tooLarge
@@ -78,7 +79,7 @@ module _ (s : List ℕ) (at : ℕ) (h : at < length s) (l : letter (getD s at 0)
 
       spelled-so : getD spellings k "" ≡ word
       spelled-so =
-          let z : k ≡ signCount + (k - signCount) = omega (arith, r, least-low (fitsAt s at e) (spellingCount - signCount) signCount) in
+          let z : k ≡ signCount + (k - signCount) = omega (arith, r, not-before (missesAt s at e) (spellingCount - signCount) signCount) in
           ap (λ (i : ℕ). getD spellings i "") z ∙ reserved-at (k - signCount)
 
   module _ (g : spellingCount ≤ k) where

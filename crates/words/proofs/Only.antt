@@ -1,24 +1,24 @@
 -- No second answer meets the promise of the next word, and no two numbers are one kind.
 -- Assumes nothing.
-use mathlib.Core.Bool.{Bool, true, false}
+use mathlib.Core.Bool.{true, false}
 use mathlib.Core.Path.{_≡_, refl, sym, _∙_, ap}
 use mathlib.Core.List.{List, [], _∷_}
-use Prim.Native.Nat.{ℕ, zero, suc, _+_, _-_, _<_, _≤_}
+use Prim.Native.Nat.{ℕ, zero, suc, _-_, _<_}
 use Prim.Native.String.{String}
 use native.Mathlib.Omega.{arith}
 use lib.ListN.{length}
 use lib.Dec.{eqb}
 use borrow.Author.Tests.{eqb-true}
+use Rattle.file_law.specs.Answer.{every}
 use Rattle.language.specs.Words as Language
 use Rattle.language.specs.Words.{bytes, signs, reserved, same, Kind, name, number, the}
-use Rattle.language.specs.Scan.{found, nextWord}
 use Rattle.words.specs.Kinds.{spellings, spelling, spellingCount, numbered, kindCount}
-use Rattle.words.specs.Meaning.{bytesOf, wordIn, meaning, worth, Sound, Answers}
+use Rattle.words.specs.Meaning.{bytesOf, wordIn, meaning, worth, Sound, Holds, Answers}
 use Rattle.words.specs.declared.Word.{Word}
 use Rattle.words.specs.declared.Next.{Next}
 use Rattle.words.specs.declared.Next.the-variants.{Found, Stops, Over}
 use Rattle.words.proofs.Parts.{part-length}
-use Rattle.words.proofs.Below.{below, each}
+use Rattle.words.proofs.Tested.{each}
 
 -- ---- a kind has one number
 
@@ -32,8 +32,8 @@ numberOf name = 0
 numberOf number = 1
 numberOf (the s) = suc (suc (place (bytes s) spellings))
 
-places : below (λ k. eqb (place (spelling k) spellings) k) spellingCount ≡ true
-unfolding bytes signs reserved same spellings spelling
+places : every (λ k. eqb (place (spelling k) spellings) k) spellingCount 0 ≡ true
+unfolding every bytes signs reserved same spellings spelling
 places = refl
 
 pub number-back : (k : ℕ) → k < kindCount → numberOf (numbered k) ≡ k
@@ -57,14 +57,17 @@ same-word s from w v x y e =
         → _≡_ {A = Next} (Found (record { kind = w .kind; start = w .start; end = w .end; value = w .value })) (Found (record { kind = v .kind; start = v .start; end = v .end; value = v .value }))
     go k a b u = rw (k, a, b, u)
 
--- the meaning and what a caller may count on leave one answer
+-- what is meant and what a caller may count on leave one answer
+one : (s : List ℕ) (from : ℕ) (a b : Next) → meaning s a ≡ meaning s b → Holds s from a → Holds s from b → a ≡ b
+one s from (Found w) (Found v) e x y = let f : _≡_ {A = Language.Word} (wordIn s w) (wordIn s v) = cc in same-word s from w v x y f
+one s from (Found w) (Stops q) e x y = absurd (let z : _≡_ {A = ℕ} 0 1 = cc in omega arith)
+one s from (Found w) Over e x y = absurd (let z : _≡_ {A = ℕ} 0 1 = cc in omega arith)
+one s from (Stops p) (Found v) e x y = absurd (let z : _≡_ {A = ℕ} 0 1 = cc in omega arith)
+one s from (Stops p) (Stops q) e x y = cc
+one s from (Stops p) Over e x y = absurd (let z : _≡_ {A = ℕ} 0 1 = cc in omega arith)
+one s from Over (Found v) e x y = absurd (let z : _≡_ {A = ℕ} 0 1 = cc in omega arith)
+one s from Over (Stops q) e x y = absurd (let z : _≡_ {A = ℕ} 0 1 = cc in omega arith)
+one s from Over Over e x y = refl
+
 pub next-only : (s : List ℕ) (from : ℕ) (a b : Next) → Answers s from a → Answers s from b → a ≡ b
-next-only s from (Found w) (Found v) x y = let e : _≡_ {A = Language.Word} (wordIn s w) (wordIn s v) = (let f : found (wordIn s w) ≡ found (wordIn s v) = x .says ∙ sym (y .says) in cc) in same-word s from w v (x .holds) (y .holds) e
-next-only s from (Found w) (Stops p) x y = absurd (let z : _≡_ {A = ℕ} 0 1 = cc (x .says ∙ sym (y .says)) in omega arith)
-next-only s from (Found w) Over x y = absurd (let z : _≡_ {A = ℕ} 0 1 = cc (x .says ∙ sym (y .says)) in omega arith)
-next-only s from (Stops p) (Found v) x y = absurd (let z : _≡_ {A = ℕ} 0 1 = cc (x .says ∙ sym (y .says)) in omega arith)
-next-only s from (Stops p) (Stops q) x y = cc (x .says ∙ sym (y .says))
-next-only s from (Stops p) Over x y = absurd (let z : _≡_ {A = ℕ} 0 1 = cc (x .says ∙ sym (y .says)) in omega arith)
-next-only s from Over (Found v) x y = absurd (let z : _≡_ {A = ℕ} 0 1 = cc (x .says ∙ sym (y .says)) in omega arith)
-next-only s from Over (Stops q) x y = absurd (let z : _≡_ {A = ℕ} 0 1 = cc (x .says ∙ sym (y .says)) in omega arith)
-next-only s from Over Over x y = refl
+next-only s from a b x y = one s from a b (x .says ∙ sym (y .says)) (x .holds) (y .holds)

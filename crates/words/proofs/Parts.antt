@@ -1,14 +1,13 @@
 -- The laws of parts of a text: their bytes, their digits' value, and whether one stands at a place.
 -- Assumes nothing.
-use mathlib.Core.Bool.{Bool, true, false, _&&_}
-use mathlib.Core.Path.{_≡_, refl, sym, _∙_, ap}
+use mathlib.Core.Bool.{true, false}
+use mathlib.Core.Path.{_≡_, sym, _∙_, ap}
 use mathlib.Core.List.{List, [], _∷_}
 use Prim.Native.Nat.{ℕ, zero, suc, _+_, _-_, _*_, _<_, _≤_, min}
 use native.Mathlib.Numerals.{add-one}
 use native.Mathlib.Omega.{arith}
-use lib.ListN.{length, getD, take, drop, length-take, length-drop}
+use lib.ListN.{length, getD, drop, length-take, length-drop}
 use lib.Seq.{drop-cons, drop-nil, take-nil}
-use lib.Dec.{eqb}
 use borrow.Author.Tests.{eq-eqb, ne-eqb}
 use Rattle.language.specs.Words.{same, valueFrom}
 use Rattle.language.specs.Scan.{begins}
@@ -62,7 +61,7 @@ module _ (s : List ℕ) (i e v : ℕ) where
 module _ (s : List ℕ) (i : ℕ) (t : List ℕ) (j f : ℕ) where
   pub stands-on : j < f → j < length t → i < length s → getD s i 0 ≡ getD t j 0 → begins (drop (i + 1) s) (part t (j + 1) f) ≡ begins (drop i s) (part t j f)
   unfolding begins
-  stands-on h k g e = rw (part-cons t j f h k, drop-cons s i 0 g, add-one) (rw (eq-eqb (getD t j 0) (getD s i 0) (sym e)))
+  stands-on h k g e = rw (part-cons t j f h k, drop-cons s i 0 g, add-one i) (rw (eq-eqb (getD t j 0) (getD s i 0) (sym e)))
 
   pub stands-not : j < f → j < length t → i < length s → ¬ (getD s i 0 ≡ getD t j 0) → begins (drop i s) (part t j f) ≡ false
   unfolding begins

@@ -1,6 +1,6 @@
 -- A word that begins with neither a letter nor a digit: the first sign that fits, or none.
 -- Assumes nothing.
-use mathlib.Core.Bool.{true, false}
+use mathlib.Core.Bool.{true, false, not}
 use mathlib.Core.Path.{_≡_, refl, _∙_, ap}
 use mathlib.Core.List.{List, [], _∷_}
 use mathlib.Core.Logic.{inl, inr}
@@ -10,15 +10,16 @@ use Prim.Native.String.{String}
 use native.Mathlib.Omega.{arith}
 use lib.ListN.{length, getD, take, drop, length-drop}
 use borrow.Author.Tests.{lt-ltb}
+use Rattle.file_law.specs.Answer.{firstNot}
 use Rattle.language.specs.Words.{bytes, letter, digit, signs, reserved, Among, firstOf, spelled, kindOf, tooLarge, the}
 use Rattle.language.specs.Scan.{begins, lengthOf, wordLength}
 use Rattle.language.proofs.Signs.{taken, fits, sign-plain}
 use Rattle.words.specs.Kinds.{spelling, signCount}
 use Rattle.words.specs.Runs.{part}
-use Rattle.words.specs.Search.{fitsAt, least}
+use Rattle.words.specs.Search.{fitsAt, missesAt}
 use Rattle.words.specs.Meaning.{Stands}
 use Rattle.words.specs.declared.Next.the-variants.{Found, Stops}
-use Rattle.words.proofs.First.{nth, nth-some, nth-none, first-least, first-passes, first-same}
+use Rattle.words.proofs.First.{nth, nth-some, nth-none, first-number, first-passes, first-same}
 use Rattle.words.proofs.Counted.{signs-length, sign-at, numbered-spelled}
 use Rattle.words.proofs.Outcomes.{front, no-word, word-here}
 
@@ -28,17 +29,17 @@ among (s ∷ ss) zero h = inl refl
 among (s ∷ ss) (suc k) h = inr (among ss k (omega arith))
 
 -- k is the number of the sign, 24 for none
-module _ (s : List ℕ) (at : ℕ) (h : at < length s) (l : letter (getD s at 0) ≡ false) (d : digit (getD s at 0) ≡ false) (k : ℕ) (r : k ≡ least (fitsAt s at at) (signCount - 0) 0) where
-  test : (j : ℕ) → j < length signs → fitsAt s at at (0 + j) ≡ begins (drop at s) (bytes (getD signs j ""))
+module _ (s : List ℕ) (at : ℕ) (h : at < length s) (l : letter (getD s at 0) ≡ false) (d : digit (getD s at 0) ≡ false) (k : ℕ) (r : k ≡ firstNot (missesAt s at at) (signCount - 0) 0) where
+  test : (j : ℕ) → j < length signs → missesAt s at at (0 + j) ≡ not (begins (drop at s) (bytes (getD signs j "")))
   unfolding fitsAt spelling
   test j g =
       let z : 0 + j ≡ j = omega arith in
-      rw (z, lt-ltb j signCount (omega (arith, signs-length))) (ap (λ (x : String). begins (drop at s) (bytes x)) (sign-at j g))
+      rw (z, lt-ltb j signCount (omega (arith, signs-length))) (ap (λ (x : String). not (begins (drop at s) (bytes x))) (sign-at j g))
 
   first : firstOf (begins (drop at s)) signs ≡ nth signs k
   first =
-      first-least (fitsAt s at at) (begins (drop at s)) signs 0 test
-      ∙ ap (nth signs) (omega (arith, ap (λ (n : ℕ). least (fitsAt s at at) n 0) signs-length, r))
+      first-number (missesAt s at at) (begins (drop at s)) signs 0 test
+      ∙ ap (nth signs) (omega (arith, ap (λ (n : ℕ). firstNot (missesAt s at at) n 0) signs-length, r))
 
   long : wordLength (drop at s) ≡ lengthOf (nth signs k)
   unfolding wordLength

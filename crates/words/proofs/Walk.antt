@@ -2,14 +2,14 @@
 -- Assumes nothing.
 use mathlib.Core.Path.{_≡_, refl, sym, _∙_, ap, subst}
 use mathlib.Core.List.{List, []}
-use Prim.Native.Nat.{ℕ, _+_, _≤_}
+use Prim.Native.Nat.{ℕ, _≤_}
 use native.Mathlib.Omega.{arith}
 use lib.ListN.{length}
 use Rattle.language.specs.Words.{Words, words, refused, before}
 use Rattle.language.specs.Scan as Scan
 use Rattle.language.specs.Scan.{found, stops, over, behind, follow, wordsFrom}
 use Rattle.language.proofs.Cutting.{words-step}
-use Rattle.words.specs.Meaning.{bytesOf, wordIn, meaning, Sound, Answers, stopOf}
+use Rattle.words.specs.Meaning.{wordIn, meaning, Sound, Answers, stopOf}
 use Rattle.words.specs.declared.Word.{Word}
 use Rattle.words.specs.declared.Next.{Next}
 use Rattle.words.specs.declared.Next.the-variants.{Found, Stops, Over}

@@ -1,17 +1,16 @@
 -- The kinds of words by number: 0 a name, 1 a number, 2 + k the spelling k of one list.
 -- Assumes nothing.
-use mathlib.Core.List.{List, [], _∷_, _++_}
-use mathlib.Core.Bool.{true, false}
+use mathlib.Core.List.{List, _++_}
 use Prim.Native.Nat.{ℕ, zero, suc}
 use Prim.Native.String.{String}
 use lib.ListN.{getD}
-use Rattle.language.specs.Words.{bytes, signs, reserved, same, Kind, name, number, the}
+use Rattle.language.specs.Words.{bytes, signs, reserved, Kind, name, number, the}
 
--- the signs, then the reserved words, each list in document order
+-- the signs, then the reserved words, each list in the language's order
 unfoldable pub spellings : List String
 spellings = signs ++ reserved
 
--- how many there are: 0 to 23 are signs, 24 to 60 reserved words
+-- spellings 0 to 23 are signs, 24 to 60 reserved words
 abbrev pub signCount : ℕ
 signCount = 24
 
@@ -22,7 +21,7 @@ spellingCount = 61
 unfoldable pub spelling : ℕ → List ℕ
 spelling k = bytes (getD spellings k "")
 
--- the kind with a number
+-- the kind with a number: "keywords, `true`, `false` and `int` are never names", so a spelled word has a kind of its own
 unfoldable pub numbered : ℕ → Kind
 numbered zero = name
 numbered (suc zero) = number

@@ -60,7 +60,7 @@ pub record Answers (s : List ℕ) (from : ℕ) (r : Next) : Type 0 where
   pub says : meaning s r ≡ nextWord s from
   pub holds : Holds s from r
 
--- refusal 4's place, if the words of a text have one
+-- refusal 4's place, if the words of a text have one: "no word starts here, name or number too large | that byte or word"
 abbrev pub stopOf : Words → Stop
 stopOf (words ws) = None
 stopOf (refused e) = At e

@@ -11,7 +11,7 @@ use Rattle.language.specs.Scan.{span}
 unfoldable pub part : List ℕ → ℕ → ℕ → List ℕ
 part s from to = take (to - from) (drop from s)
 
--- how a run goes on, by number: 0 blanks, 1 a number, 2 a name
+-- how a run goes on, by number: 0 blanks, 1 a number, 2 a name ("a letter, then letters, digits, underscores; a hyphen ..")
 unfoldable pub goesOn : ℕ → ℕ → ℕ → Bool
 goesOn zero = inBlanks
 goesOn (suc zero) = inNumber
@@ -21,6 +21,6 @@ goesOn (suc (suc run)) = inName
 unfoldable pub runEnd : List ℕ → ℕ → ℕ → ℕ
 runEnd s from run = from + span (goesOn run) (drop from s)
 
--- a value that is too large counts as 65,536
+-- "a number's value is at most 65,535": a larger one counts as 65,536
 abbrev pub cap : ℕ → ℕ
 cap v = min v 65536

@@ -1,9 +1,9 @@
 -- The table of spellings and the search in it.
 -- Assumes nothing.
 use mathlib.Core.Path.{_≡_}
-use mathlib.Core.Bool.{Bool, true, false, cond}
+use mathlib.Core.Bool.{Bool, not, cond}
 use mathlib.Core.List.{List}
-use Prim.Native.Nat.{ℕ, zero, suc, _+_, _≤_, _<_}
+use Prim.Native.Nat.{ℕ, _+_, _≤_, _<_}
 use lib.ListN.{length, getD, drop}
 use lib.Dec.{ltb}
 use Rattle.language.specs.Words.{same}
@@ -22,7 +22,6 @@ pub record Table (row starts : List ℕ) : Type 0 where
 unfoldable pub fitsAt : List ℕ → ℕ → ℕ → ℕ → Bool
 fitsAt s at e k = cond (ltb k signCount) (begins (drop at s) (spelling k)) (same (part s at e) (spelling k))
 
--- the least number from k on that passes a test, of n numbers; past them where none does
-unfoldable pub least : (ℕ → Bool) → ℕ → ℕ → ℕ
-least p zero k = k
-least p (suc n) k = elim (p k) [ true ↦ k | false ↦ least p n (suc k) ]
+-- .. does not
+abbrev pub missesAt : List ℕ → ℕ → ℕ → ℕ → Bool
+missesAt s at e k = not (fitsAt s at e k)

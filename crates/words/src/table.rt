@@ -2,13 +2,15 @@
 ghost use mathlib.Core.Path.{_≡_};
 ghost use Prim.Native.Nat.{_-_, _<_, _≤_};
 ghost use lib.ListN.{length};
-ghost use Rattle.words.specs.Kinds.{signCount, spellingCount};
-ghost use Rattle.words.specs.Search.{Table, fitsAt, least};
+ghost use Rattle.file_law.specs.Answer.{firstNot};
+ghost use Rattle.words.specs.Kinds.{spellingCount};
+ghost use Rattle.words.specs.Search.{Table, fitsAt, missesAt};
 use crate::scan;
 
-// How many spellings there are, and how many of them, the first, are signs.
+// The first so many spellings are signs.
 pub const SIGNS: usize = 24;
 
+// How many there are, with the reserved words.
 pub const SPELLINGS: usize = 61;
 
 // Whether spelling k stands at `at`: a sign, or the reserved word that ends at e.
@@ -38,7 +40,7 @@ pub fn first_fit(
     last: usize,
 ) -> usize
     requires { ⌜ Table (now row) (now starts) × (at ≤ e) × (e ≤ length (now s)) × (k ≤ last) × (last ≤ spellingCount) ⌝ }
-    ensures { λ r. ⌜ r ≡ least (fitsAt (now (s .entry)) at e) (last - k) k ⌝ }
+    ensures { λ r. ⌜ r ≡ firstNot (missesAt (now (s .entry)) at e) (last - k) k ⌝ }
 {
     let mut i = k;
     while i < last {

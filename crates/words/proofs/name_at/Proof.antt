@@ -24,7 +24,7 @@ add-t9 c = search needs
 returns : tie.Need-returns
 returns c =
     let o = c .before .before .before .before .before in
-    reserved-word (o .args .s .now) (o .args .at) (o .pre .1) (o .pre .2) _ (c .before .before .run-end .ensures) _ (c .before .first-fit .ensures) (c .if1 .taken)
+    reserved-word (o .args .s .now) (o .args .at) (o .pre .1) (o .pre .2) _ (c .before .before .run-end .ensures) _ (c .before .first-fit .ensures) (omega arith)
 
 sub-if2 : tie.Need-sub-if2
 sub-if2 c =
@@ -35,13 +35,13 @@ returns-2 : tie.Need-returns-2
 returns-2 c =
     let o = c .before .before .before .before .before .before in
     let k = c .before .before in
-    name-short (o .args .s .now) (o .args .at) (o .pre .1) (o .pre .2) _ (k .before .run-end .ensures) _ (k .first-fit .ensures) (c .before .if1 .left) (c .if2 .taken)
+    name-short (o .args .s .now) (o .args .at) (o .pre .1) (o .pre .2) _ (k .before .run-end .ensures) _ (k .first-fit .ensures) (omega arith) (omega arith)
 
 returns-3 : tie.Need-returns-3
 returns-3 c =
     let o = c .before .before .before .before .before .before in
     let k = c .before .before in
-    name-long (o .args .s .now) (o .args .at) (o .pre .1) (o .pre .2) _ (k .before .run-end .ensures) _ (k .first-fit .ensures) (c .before .if1 .left) (c .if2 .left)
+    name-long (o .args .s .now) (o .args .at) (o .pre .1) (o .pre .2) _ (k .before .run-end .ensures) _ (k .first-fit .ensures) (omega arith) (omega arith)
 
 pub name-at-spec : {M : Type 1} → statement M
 name-at-spec =

@@ -2,6 +2,7 @@
 -- Assumes nothing.
 use mathlib.Core.Path.{refl}
 use borrow.Author.Needs.{needs}
+use Rattle.file_law.specs.Answer.{every}
 use Rattle.language.specs.Words.{bytes, signs, reserved, same}
 use Rattle.words.specs.Kinds.{spellings, spelling}
 use Rattle.words.specs.Runs.{part}
@@ -17,7 +18,7 @@ run-end-requires : tie.Need-run-end-requires
 run-end-requires c κs = search needs
 
 word-at-requires : tie.Need-word-at-requires
-unfolding bytes signs reserved same spellings spelling part
+unfolding every bytes signs reserved same spellings spelling part
 word-at-requires c κs = tested _ _ refl refl
 
 returns : tie.Need-returns

@@ -18,12 +18,12 @@ value-requires c κs =
 returns : tie.Need-returns
 returns c =
     let o = c .before .before .before .before in
-    number-fits (o .args .s .now) (o .args .at) (o .pre .0) (o .pre .1) (o .pre .2) _ (c .before .before .run-end .ensures) _ (c .before .value .ensures) (c .if1 .taken)
+    number-fits (o .args .s .now) (o .args .at) (o .pre .0) (o .pre .1) (o .pre .2) _ (c .before .before .run-end .ensures) _ (c .before .value .ensures) (omega arith)
 
 returns-2 : tie.Need-returns-2
 returns-2 c =
     let o = c .before .before .before .before in
-    number-large (o .args .s .now) (o .args .at) (o .pre .0) (o .pre .1) (o .pre .2) _ (c .before .before .run-end .ensures) _ (c .before .value .ensures) (c .if1 .left)
+    number-large (o .args .s .now) (o .args .at) (o .pre .0) (o .pre .1) (o .pre .2) _ (c .before .before .run-end .ensures) _ (c .before .value .ensures) (omega arith)
 
 pub number-at-spec : {M : Type 1} → statement M
 number-at-spec = tie.close (tie.spec run-end-requires value-requires returns returns-2)

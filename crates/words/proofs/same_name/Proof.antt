@@ -2,7 +2,7 @@
 -- Assumes nothing.
 use mathlib.Core.Path.{sym, _∙_}
 use borrow.Author.Needs.{needs}
-use Rattle.words.proofs.Spellings.{parts-differ, parts-stand}
+use Rattle.words.proofs.Same.{parts-differ, parts-stand}
 use Rattle.words.proofs.same_name.Statement.{statement}
 use Rattle.words.proofs.same_name.Tie as tie
 
@@ -27,7 +27,7 @@ returns-2 c =
     let two = c .before .before in
     let one = two .before in
     let a = one .before .before .args in
-    c .stands .ensures ∙ parts-stand (a .s .now) (a .a) (a .b) (a .c) (a .d) (sym (one .size .ensures) ∙ c .before .if1 .left ∙ two .size2 .ensures)
+    parts-stand (a .s .now) (a .a) (a .b) (a .c) (a .d) (c .stands .ensures) (sym (one .size .ensures) ∙ c .before .if1 .left ∙ two .size2 .ensures)
 
 pub same-name-spec : {M : Type 1} → statement M
 same-name-spec =

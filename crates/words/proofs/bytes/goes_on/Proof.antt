@@ -1,6 +1,6 @@
 -- `words::bytes::goes_on` meets its contract.
 -- Assumes nothing.
-use mathlib.Core.Path.{_≡_, sym, _∙_}
+use mathlib.Core.Path.{sym, _∙_}
 use borrow.Author.Needs.{needs}
 use Rattle.words.proofs.Runs.{goes-blank, goes-number, goes-name}
 use Rattle.words.proofs.bytes.goes_on.Statement.{statement}

@@ -1,6 +1,6 @@
 -- `words::bytes::is_blank` meets its contract.
 -- Assumes nothing.
-use borrow.Author.Tests.{eq-eqb, ne-eqb}
+use borrow.Author.Tests.{ne-eqb}
 use native.Mathlib.Omega.{arith}
 use Rattle.language.specs.Words.{blank}
 use Rattle.words.proofs.bytes.is_blank.Statement.{statement}

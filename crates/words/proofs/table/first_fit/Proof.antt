@@ -3,13 +3,15 @@
 use mathlib.Core.Path.{_≡_, refl, sym, _∙_}
 use Prim.Native.Nat.{_-_}
 use native.Mathlib.Omega.{arith}
-use Rattle.words.specs.Search.{fitsAt, least}
-use Rattle.words.proofs.Least.{least-here, least-on, least-over}
+use Rattle.file_law.specs.Answer.{firstNot}
+use Rattle.file_law.proofs.Every.{stops, goes, ends}
+use Rattle.words.specs.Search.{missesAt}
+use Rattle.words.proofs.Spellings.{misses}
 use Rattle.words.proofs.table.first_fit.Statement.{statement}
 use Rattle.words.proofs.table.first_fit.Tie as tie
 
 abbrev Inv-loop : tie.InvT-loop
-Inv-loop row starts s at e k last i₀ i = least (fitsAt s at e) (last - i) i ≡ least (fitsAt s at e) (last - k) k
+Inv-loop row starts s at e k last i₀ i = firstNot (missesAt s at e) (last - i) i ≡ firstNot (missesAt s at e) (last - k) k
 
 abbrev μ-loop : tie.MeasureT-loop
 μ-loop row starts s at e k last i₀ i = last - i
@@ -27,7 +29,7 @@ returns c =
     let f = c .before in
     let l = f .before .before in
     let a = l .before .before .before .args in
-    least-here (fitsAt (a .s .now) (a .at) (a .e)) (a .last) (l .loop .i) _ (f .before .loop-test .taken) (sym (f .fits2 .ensures) ∙ c .if1 .taken) (l .loop .inv)
+    sym (stops (missesAt (a .s .now) (a .at) (a .e)) (a .last) (l .loop .i) (f .before .loop-test .taken) (misses (a .s .now) (a .at) (a .e) (l .loop .i) (f .fits2 .ensures) (c .if1 .taken))) ∙ l .loop .inv
 
 add-i : tie.Need-add-i Inv-loop μ-loop
 add-i c = omega arith
@@ -40,13 +42,13 @@ loop-again c =
     let f = c .before in
     let l = f .before .before in
     let a = l .before .before .before .args in
-    least-on (fitsAt (a .s .now) (a .at) (a .e)) (a .last) (l .loop .i) _ (f .before .loop-test .taken) (sym (f .fits2 .ensures) ∙ c .if1 .left) (l .loop .inv)
+    sym (goes (missesAt (a .s .now) (a .at) (a .e)) (a .last) (l .loop .i) (f .before .loop-test .taken) (misses (a .s .now) (a .at) (a .e) (l .loop .i) (f .fits2 .ensures) (c .if1 .left))) ∙ l .loop .inv
 
 returns-2 : tie.Need-returns-2 Inv-loop μ-loop
 returns-2 c =
     let l = c .before in
     let a = l .before .before .before .args in
-    least-over (fitsAt (a .s .now) (a .at) (a .e)) (a .last) (l .loop .i) _ (c .loop-test .left) (l .loop .inv)
+    sym (ends (missesAt (a .s .now) (a .at) (a .e)) (a .last) (l .loop .i) (c .loop-test .left)) ∙ l .loop .inv
 
 pub first-fit-spec : {M : Type 1} → statement M
 first-fit-spec =

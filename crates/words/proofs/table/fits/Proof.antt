@@ -1,6 +1,5 @@
 -- `words::table::fits` meets its contract: the table's rule at k turns bytes of the row into the spelling.
 -- Assumes nothing.
-use mathlib.Core.Path.{_∙_}
 use native.Mathlib.Omega.{arith}
 use borrow.Author.Needs.{needs}
 use Rattle.words.proofs.Spellings.{fits-sign, fits-not, fits-word}
@@ -33,7 +32,7 @@ returns : tie.Need-returns
 returns c =
     let o = c .before .before .before .before .before .before in
     let a = o .args in
-    c .stands .ensures ∙ fits-sign (a .row .now) (a .starts .now) (a .s .now) (a .at) (a .e) (a .k) (o .pre .0) (o .pre .3) (c .before .if1 .taken)
+    fits-sign (a .row .now) (a .starts .now) (a .s .now) (a .at) (a .e) (a .k) (o .pre .0) (o .pre .3) (c .stands .ensures) (c .before .if1 .taken)
 
 sub-if2 : tie.Need-sub-if2
 sub-if2 c = search needs
@@ -56,7 +55,7 @@ returns-3 : tie.Need-returns-3
 returns-3 c =
     let o = c .before .before .before .before .before .before .before in
     let a = o .args in
-    c .stands2 .ensures ∙ fits-word (a .row .now) (a .starts .now) (a .s .now) (a .at) (a .e) (a .k) (o .pre .0) (o .pre .3) (c .before .before .if1 .left) (o .pre .1) (o .pre .2) (c .before .if2 .left)
+    fits-word (a .row .now) (a .starts .now) (a .s .now) (a .at) (a .e) (a .k) (o .pre .0) (o .pre .3) (c .stands2 .ensures) (c .before .before .if1 .left) (o .pre .1) (o .pre .2) (c .before .if2 .left)
 
 pub fits-spec : {M : Type 1} → statement M
 fits-spec =
