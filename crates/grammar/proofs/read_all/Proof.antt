@@ -35,6 +35,7 @@ read-requires c κs =
       closed = start-closed;
       short = c .before .before .before .before .pre .short;
       word = c .before .before .word-from .ensures .0;
+      few = omega arith;
     }
 
 returns : tie.Need-returns
