@@ -1,7 +1,5 @@
 // Is a text a program? Refusals 3, 4 and 5, with their places.
 ghost use mathlib.Core.Path.{_≡_};
-ghost use Prim.Native.Nat.{_≤_};
-ghost use lib.ListN.{length};
 ghost use Rattle.ll1.specs.Rows.{row};
 ghost use Rattle.grammar_law.specs.Codes.{codes};
 ghost use Rattle.grammar.specs.Meaning.{Cleared, Says};
@@ -26,7 +24,7 @@ pub enum Checked {
 }
 
 // The word to be read next: its kind's number (0 at the end of the text), how many words stand before it, its place, and the place behind it.
-pub struct Here {
+struct Here {
     kind: u8,
     number: usize,
     place: usize,
@@ -34,14 +32,14 @@ pub struct Here {
 }
 
 // Where a row was left, and whether it was read to its end.
-pub struct Got {
+struct Got {
     word: Here,
     ok: bool,
 }
 
 // What a symbol of a row calls for: the row has ended; the word may not stand there; it is read; a level opens or closes, with so many left;
 // the row of a part, the last of its own; or the row of a part, and then the rest of its own.
-pub enum Turn {
+enum Turn {
     End,
     Stop,
     Word,
@@ -117,20 +115,13 @@ fn next_turn(rows: &[u8; 279], starts: &[u16; 4352], p: usize, kind: u8, k: u8) 
     Turn::Call(q as usize)
 }
 
-// Reads the row at `start` from the word `first` on, with so many levels left. A row's last part is read in the same call, so each call has
+// Reads the row at a place from the word `first` on, with so many levels left. A row's last part is read in the same call, so each call has
 // fewer levels left or is of a part less deep (16 for a level, and the depth): of 32 levels and the start, 7 deep, 520 calls at most stand open.
-fn read(
-    rows: &[u8; 279],
-    starts: &[u16; 4352],
-    s: &[u8],
-    start: usize,
-    first: Here,
-    levels: u8,
-) -> Got
-    requires { ⌜ Ready (now rows) (now starts) (now s) start first levels ⌝ }
-    ensures { λ r. ⌜ Meets (row codes (now (rows .entry)) start) (now (s .entry)) first levels r ⌝ }
+fn read(rows: &[u8; 279], starts: &[u16; 4352], s: &[u8], at: usize, first: Here, levels: u8) -> Got
+    requires { ⌜ Ready (now rows) (now starts) (now s) at first levels ⌝ }
+    ensures { λ r. ⌜ Meets (row codes (now (rows .entry)) at) (now (s .entry)) first levels r ⌝ }
 {
-    let mut p = start;
+    let mut p = at;
     let mut w = first;
     let mut k = levels;
     loop {

@@ -49,7 +49,7 @@ module _ (t : ℕ) (c : read-lts.At-loop (calls t) (read-at t) read.Post inv μ-
   abbrev s : read-lts.Start (calls t) (read-at t) read.Post inv μ-loop
   s = c .before .before
 
-  here : At codes choice depth turn (s .args .rows .now) (s .args .starts .now) (codesIn (s .args .s .now)) (row codes (s .args .rows .now) (s .args .start)) (s .args .first .number) (s .args .levels) (c .loop .p) (c .loop .w .number) (c .loop .k) (getD (s .args .rows .now) (c .loop .p) 0)
+  here : At codes choice depth turn (s .args .rows .now) (s .args .starts .now) (codesIn (s .args .s .now)) (row codes (s .args .rows .now) (s .args .at)) (s .args .first .number) (s .args .levels) (c .loop .p) (c .loop .w .number) (c .loop .k) (getD (s .args .rows .now) (c .loop .p) 0)
   here = record { tables = s .pre .1 .tables; going = c .loop .inv .0; byte = refl }
 
   few : c .loop .k ≤ mostLevels
@@ -58,7 +58,7 @@ module _ (t : ℕ) (c : read-lts.At-loop (calls t) (read-at t) read.Post inv μ-
 loop-holds : (t : ℕ) → read-lts.Need-loop-holds (calls t) (read-at t) read.Post inv μ-loop
 loop-holds t c =
     let o = c .before in
-    (go-start codes choice depth (codesIn (o .args .s .now)) (row codes (o .args .rows .now) (o .args .start)) (o .args .first .number) (o .args .levels) (o .pre .1 .closed) (o .pre .1 .word .fits), o .pre .1 .word)
+    (go-start codes choice depth (codesIn (o .args .s .now)) (row codes (o .args .rows .now) (o .args .at)) (o .args .first .number) (o .args .levels) (o .pre .1 .closed) (o .pre .1 .word .fits), o .pre .1 .word)
 
 next-turn-requires : (t : ℕ) → read-lts.Need-next-turn-requires (calls t) (read-at t) read.Post inv μ-loop
 next-turn-requires t c κs =
