@@ -1,20 +1,20 @@
 -- What each turn of the reader comes to, by the symbol that it meets.
 -- Assumes nothing.
 use mathlib.Core.Bool.{true}
-use mathlib.Core.Path.{_≡_, refl, sym, _∙_, ap, subst}
-use mathlib.Core.Logic.{_⊎_, inl, inr}
+use mathlib.Core.Path.{_≡_, refl, sym, _∙_, subst}
+use mathlib.Core.Logic.{inl, inr}
 use mathlib.Core.List.{List}
-use Prim.Native.Nat.{ℕ, _+_, _-_, _*_, _≤_, _<_}
+use Prim.Native.Nat.{ℕ, _+_, _*_, _<_}
 use native.Mathlib.Omega.{arith}
-use lib.ListN.{length, getD}
+use lib.ListN.{getD}
 use Rattle.ll1.specs.Rows.{mostDeep, row, closes, deep, ReadTo, StopsAt}
 use Rattle.ll1.proofs.Steps.{Going, left, inside}
-use Rattle.ll1.proofs.Turns.{At, finish, word-stops, word-again, word-less, into-stops, into-again, into-less, out-small, out-again, out-less, none-stops, called, last-again, last-less, call-less, call-stops, call-again, call-again-less}
+use Rattle.ll1.proofs.Turns.{At, finish, word-stops, word-again, word-less, into-stops, into-again, into-less, out-again, out-less, none-stops, called, last-again, last-less, call-less, call-stops, call-again, call-again-less}
 use Rattle.language.specs.Grammar.{Line}
 use Rattle.language.specs.Texts.{mostBytes}
 use Rattle.grammar_law.specs.Tables.{depth, turn}
 use Rattle.grammar_law.specs.Codes.{codes, choice}
-use Rattle.grammar.specs.Reading.{Calls, Turned}
+use Rattle.grammar.specs.Reading.{Turned}
 use Rattle.grammar.specs.declared.Turn.{Turn}
 use Rattle.grammar.specs.declared.Turn.the-variants.{End, Stop, Word, Level, Last, Call}
 

@@ -90,19 +90,19 @@ fn next_turn(rows: &[u8; 279], starts: &[u16; 4352], p: usize, kind: u8, k: u8) 
     if b == 0 {
         return Turn::End;
     }
-    if b < 126 {
+    if b < table::OPENING {
         if kind != b {
             return Turn::Stop;
         }
         return Turn::Word;
     }
-    if b == 126 {
+    if b == table::OPENING {
         if k == 0 {
             return Turn::Stop;
         }
         return Turn::Level(k - 1);
     }
-    if b == 127 {
+    if b == table::CLOSING {
         return Turn::Level(k + 1);
     }
     let q = table::start_at(starts, b, kind);
@@ -115,8 +115,9 @@ fn next_turn(rows: &[u8; 279], starts: &[u16; 4352], p: usize, kind: u8, k: u8) 
     Turn::Call(q as usize)
 }
 
-// Reads the row at a place from the word `first` on, with so many levels left. A row's last part is read in the same call, so each call has
-// fewer levels left or is of a part less deep (16 for a level, and the depth): of 32 levels and the start, 7 deep, 520 calls at most stand open.
+// Reads the row at a place from the word `first` on, with so many levels left. Its stack is bounded: a row's last part is read in the same call,
+// so 16 * levels + the calls that the row needs before a level opens falls with each call. The start has 16 * 32 + 7: 520 calls at most stand
+// open, of 240 bytes on x86-64.
 fn read(rows: &[u8; 279], starts: &[u16; 4352], s: &[u8], at: usize, first: Here, levels: u8) -> Got
     requires { ⌜ Ready (now rows) (now starts) (now s) at first levels ⌝ }
     ensures { λ r. ⌜ Meets (row codes (now (rows .entry)) at) (now (s .entry)) first levels r ⌝ }

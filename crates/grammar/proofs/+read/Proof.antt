@@ -1,7 +1,7 @@
 -- `grammar::read` meets its contract: the laws of a reader's turns, one at each need.
 -- What falls with each call: 16 for each level left, and the calls that the row can need before a level opens. With each turn: the words left, and the symbols that read none.
 -- Assumes nothing.
-use mathlib.Core.Path.{_≡_, refl}
+use mathlib.Core.Path.{refl}
 use Prim.Native.Nat.{ℕ, _<_, _≤_, _+_, _*_}
 use native.Mathlib.Omega.{arith}
 use borrow.Author.Needs.{needs}
