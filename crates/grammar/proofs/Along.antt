@@ -1,6 +1,6 @@
 -- How a reader goes along the words of a text: one law for each answer of the scanner.
 -- Assumes nothing.
-use mathlib.Core.Path.{_≡_, refl, sym, _∙_, ap, subst}
+use mathlib.Core.Path.{_≡_, refl, sym, _∙_, ap}
 use mathlib.Core.List.{List, [], _∷_, map}
 use Prim.Native.Nat.{ℕ, zero, suc, _+_, _≤_, _<_}
 use native.Mathlib.Omega.{arith}
@@ -8,8 +8,7 @@ use lib.ListN.{length, getD, take, drop, length-drop, length-map, List·getD-eq-
 use lib.Seq.{drop-drop}
 use Rattle.language.specs.Words as Language
 use Rattle.language.specs.Words.{IsWord, wordAt, Words, words, refused, before, Cut, ends, skips, takes, large, strange}
-use Rattle.language.specs.Scan.{behind, wordsFrom, wordsOf}
-use Rattle.language.specs.Grammar.{placeOf}
+use Rattle.language.specs.Scan.{wordsFrom, wordsOf}
 use Rattle.language.proofs.Longest.{no-empty-word}
 use Rattle.language.proofs.Cutting.{Lie, none, next, words-cut, words-lie}
 use Rattle.language.proofs.Checking.{same-words}
@@ -17,7 +16,7 @@ use Rattle.words.specs.Meaning.{wordIn, Sound, Answers}
 use Rattle.words.specs.declared.Word.{Word}
 use Rattle.words.specs.declared.Next.{Next}
 use Rattle.words.specs.declared.Next.the-variants.{Found, Stops, Over}
-use Rattle.words.proofs.Only.{numberOf, number-back}
+use Rattle.words.proofs.Only.{number-back}
 use Rattle.words.proofs.Walk.{sound, words-found, words-stop, words-over}
 use Rattle.grammar.specs.Reading.{codeOf, listed, wordsIn, codesIn, Left, Stands}
 use Rattle.grammar.specs.declared.Here.{Here}

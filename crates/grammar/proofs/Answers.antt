@@ -13,7 +13,7 @@ use Rattle.ll1.proofs.Steps.{inside}
 use Rattle.language.specs.Words as cut
 use Rattle.language.specs.Words.{Kind, Word, Words, words, Cut}
 use Rattle.language.specs.Scan.{wordsOf}
-use Rattle.language.specs.Grammar.{Line, csml, mostLevels, wholeProgram, kinds, placeOf, program, refuses, Checks, four, five, fine}
+use Rattle.language.specs.Grammar.{Line, csml, mostLevels, wholeProgram, kinds, program, refuses, Checks, four, five, fine}
 use Rattle.language.specs.Texts.{mostBytes}
 use Rattle.language.proofs.Cutting.{words-cut}
 use Rattle.words.specs.Meaning.{stopOf}

@@ -9,8 +9,8 @@ use Prim.Native.String.{String}
 use native.Mathlib.Omega.{arith}
 use lib.ListN.{length, getD, take}
 use Rattle.ll1.specs.Rows as rows
-use Rattle.language.specs.Words.{bytes, signs, reserved, digit, same, firstOf, spelled, kindOf, Kind, name, number, the, Word, Words, words, refused, before, wordAt, Cut, ends, skips, takes, large, strange}
-use Rattle.language.specs.Numbers.{noKind, allKinds, kindAt}
+use Rattle.language.specs.Words.{bytes, signs, reserved, digit, same, firstOf, spelled, kindOf, name, number, the, Words, words, refused, before, wordAt, Cut, ends, skips, takes, large, strange}
+use Rattle.language.specs.Numbers.{allKinds, kindAt}
 use Rattle.language.specs.Grammar.{kinds}
 use Rattle.words.specs.Kinds.{spellings, spellingCount, numbered, kindCount}
 use Rattle.words.proofs.Only.{numberOf, number-back}

@@ -1,4 +1,5 @@
 pub mod Codes
 pub mod Along
 pub mod Answers
+pub mod Turning
 pub mod Only

@@ -1,14 +1,12 @@
 -- No second answer meets the promise.
 -- Assumes nothing.
-use mathlib.Core.Path.{_≡_, refl, sym, _∙_, ap}
-use mathlib.Core.Logic.{_⊎_, inl, inr}
+use mathlib.Core.Path.{_≡_, refl}
+use mathlib.Core.Logic.{inl, inr}
 use mathlib.Core.List.{List}
-use Prim.Native.Nat.{ℕ, _≤_, _<_}
+use Prim.Native.Nat.{ℕ}
 use native.Mathlib.Omega.{arith}
-use lib.ListN.{length}
 use Rattle.language.specs.Words.{Word}
-use Rattle.language.specs.Grammar.{Outcome, program, refuses, Checks}
-use Rattle.language.specs.Texts.{mostBytes}
+use Rattle.language.specs.Grammar.{program, refuses, Checks}
 use Rattle.language.proofs.Checking.{one-outcome}
 use Rattle.grammar.specs.Meaning.{Says}
 use Rattle.grammar.specs.declared.Checked.{Checked}

@@ -2,30 +2,34 @@
 -- Assumes nothing.
 use mathlib.Core.Bool.{Bool, true, false}
 use mathlib.Core.Path.{_≡_}
+use mathlib.Core.Logic.{_⊎_}
 use mathlib.Core.List.{List, [], map}
-use Prim.Native.Nat.{ℕ, suc, _+_, _≤_}
+use Prim.Native.Nat.{ℕ, suc, _+_, _-_, _≤_, _<_}
 use lib.ListN.{length, getD, drop}
-use Rattle.ll1.specs.Rows.{row, closes, Tables, ReadTo, StopsAt}
-use Rattle.language.specs.Words.{Kind, Word, Words, words, refused}
+use Rattle.ll1.specs.Rows.{opening, closing, firstPart, startOf, row, closes, Tables, ReadTo, StopsAt}
+use Rattle.language.specs.Words as Language
+use Rattle.language.specs.Words.{Words, words, refused}
 use Rattle.language.specs.Scan.{wordsFrom, wordsOf}
-use Rattle.language.specs.Grammar.{Line, placeOf}
+use Rattle.language.specs.Grammar.{Line, mostLevels, placeOf}
 use Rattle.language.specs.Texts.{mostBytes}
 use Rattle.words.proofs.Only.{numberOf}
 use Rattle.grammar_law.specs.Tables.{depth, turn}
 use Rattle.grammar_law.specs.Codes.{codes, choice}
 use Rattle.grammar.specs.declared.Here.{Here}
 use Rattle.grammar.specs.declared.Got.{Got}
+use Rattle.grammar.specs.declared.Turn.{Turn}
+use Rattle.grammar.specs.declared.Turn.the-variants.{End, Stop, Word, Level, Last, Call}
 
 -- the tables number the kinds from 1 on
-abbrev pub codeOf : Word → ℕ
+abbrev pub codeOf : Language.Word → ℕ
 codeOf w = suc (numberOf (w .kind))
 
 -- the words, where no 4 ends them
-abbrev pub listed : Words → List Word
+abbrev pub listed : Words → List Language.Word
 listed (words ws) = ws
 listed (refused e) = []
 
-abbrev pub wordsIn : List ℕ → List Word
+abbrev pub wordsIn : List ℕ → List Language.Word
 wordsIn s = listed (wordsOf s)
 
 -- the numbers of their kinds
@@ -46,14 +50,40 @@ pub record Stands (s : List ℕ) (w : Here) : Type 0 where
   pub inside : w .place ≤ length s
   pub next : ¬ (w .kind ≡ 0) → Left s (w .next) (w .number + 1)
 
+-- the tables are of their lengths, p is in the rows or not far behind, and a level more can be counted
+pub record Serves (rows starts : List ℕ) (p k : ℕ) : Type 0 where
+  pub rows-fit : length rows ≤ 279
+  pub starts-fit : length starts ≤ 4352
+  pub low : ¬ (getD rows p 0 ≡ 0) → p < mostBytes
+  pub few : k ≤ mostLevels
+
+-- symbol b is a part, and a word of kind t calls for the row at q
+pub record Calls (starts : List ℕ) (b t q : ℕ) : Type 0 where
+  pub part : firstPart ≤ b
+  pub found : ¬ (q ≡ 0)
+  pub start : q ≡ startOf starts (b - firstPart) t
+
+-- what the symbol at p calls for, before a word of kind t, with k levels left
+abbrev pub Turned : List ℕ → List ℕ → ℕ → ℕ → ℕ → Turn → Type 0
+Turned rows starts p t k End = getD rows p 0 ≡ 0
+Turned rows starts p t k Stop =
+    ((¬ (getD rows p 0 ≡ 0)) × (getD rows p 0 < opening) × (¬ (t ≡ getD rows p 0)))
+    ⊎ (((getD rows p 0 ≡ opening) × (k ≡ 0))
+    ⊎ ((firstPart ≤ getD rows p 0) × (0 ≡ startOf starts (getD rows p 0 - firstPart) t)))
+Turned rows starts p t k Word = (¬ (getD rows p 0 ≡ 0)) × (getD rows p 0 < opening) × (t ≡ getD rows p 0)
+Turned rows starts p t k (Level left) = ((getD rows p 0 ≡ opening) × (¬ (k ≡ 0)) × (left ≡ k - 1)) ⊎ ((getD rows p 0 ≡ closing) × (left ≡ k + 1))
+Turned rows starts p t k (Last q) = Calls starts (getD rows p 0) t q × (getD rows (p + 1) 0 ≡ 0)
+Turned rows starts p t k (Call q) = Calls starts (getD rows p 0) t q × (¬ (getD rows (p + 1) 0 ≡ 0))
+
 -- the tables serve, row p closes the levels that it opens, the text is short, and the word stands in it
-pub record Ready (rows starts s : List ℕ) (p : ℕ) (w : Here) : Type 0 where
+pub record Ready (rows starts s : List ℕ) (p : ℕ) (w : Here) (k : ℕ) : Type 0 where
   pub rows-fit : length rows ≤ 279
   pub starts-fit : length starts ≤ 4352
   pub tables : Tables codes choice depth turn rows starts
   pub closed : closes 0 (row codes rows p) ≡ true
   pub short : length s ≤ mostBytes
   pub word : Stands s w
+  pub few : k ≤ mostLevels
 
 -- from word i on, with k levels left, row a is read up to word e; or word e is the first that it lets no program have there
 abbrev pub Said : Line → List ℕ → ℕ → ℕ → ℕ → Bool → Type 0

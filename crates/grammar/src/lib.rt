@@ -1,11 +1,9 @@
 // Is a text a program? Refusals 3, 4 and 5, with their places.
 ghost use mathlib.Core.Path.{_≡_};
-ghost use Prim.Native.Nat.{_≤_};
-ghost use lib.ListN.{length};
 ghost use Rattle.ll1.specs.Rows.{row};
 ghost use Rattle.grammar_law.specs.Codes.{codes};
 ghost use Rattle.grammar.specs.Meaning.{Cleared, Says};
-ghost use Rattle.grammar.specs.Reading.{Left, Stands, Ready, Meets};
+ghost use Rattle.grammar.specs.Reading.{Left, Stands, Serves, Turned, Ready, Meets};
 use words::Next;
 use words::Stop;
 
@@ -26,7 +24,7 @@ pub enum Checked {
 }
 
 // The word to be read next: its kind's number (0 at the end of the text), how many words stand before it, its place, and the place behind it.
-pub struct Here {
+struct Here {
     kind: u8,
     number: usize,
     place: usize,
@@ -34,9 +32,20 @@ pub struct Here {
 }
 
 // Where a row was left, and whether it was read to its end.
-pub struct Got {
+struct Got {
     word: Here,
     ok: bool,
+}
+
+// What a symbol of a row calls for: the row has ended; the word may not stand there; it is read; a level opens or closes, with so many left;
+// the row of a part, the last of its own; or the row of a part, and then the rest of its own.
+enum Turn {
+    End,
+    Stop,
+    Word,
+    Level(u8),
+    Last(usize),
+    Call(usize),
 }
 
 // The word from a place on, of a text that is all words.
@@ -72,65 +81,79 @@ fn word_from(s: &[u8], from: usize, number: usize) -> Here
     }
 }
 
-// Reads the row at `start` from the word `first` on. A row's last part is read in the same call, so a call inside another opens a level
-// or stands lower in the grammar: 16 * levels + 16 calls at most stand open at once.
-fn read(
-    rows: &[u8; 279],
-    starts: &[u16; 4352],
-    s: &[u8],
-    start: usize,
-    first: Here,
-    levels: u8,
-) -> Got
-    requires { ⌜ Ready (now rows) (now starts) (now s) start first ⌝ }
-    ensures { λ r. ⌜ Meets (row codes (now (rows .entry)) start) (now (s .entry)) first levels r ⌝ }
+// What the symbol at p of the rows calls for, before a word of this kind, with k levels left.
+fn next_turn(rows: &[u8; 279], starts: &[u16; 4352], p: usize, kind: u8, k: u8) -> Turn
+    requires { ⌜ Serves (now rows) (now starts) p k ⌝ }
+    ensures { λ r. ⌜ Turned (now (rows .entry)) (now (starts .entry)) p kind k r ⌝ }
 {
-    let mut p = start;
+    let b = table::symbol_at(rows, p);
+    if b == 0 {
+        return Turn::End;
+    }
+    if b < table::OPENING {
+        if kind != b {
+            return Turn::Stop;
+        }
+        return Turn::Word;
+    }
+    if b == table::OPENING {
+        if k == 0 {
+            return Turn::Stop;
+        }
+        return Turn::Level(k - 1);
+    }
+    if b == table::CLOSING {
+        return Turn::Level(k + 1);
+    }
+    let q = table::start_at(starts, b, kind);
+    if q == 0 {
+        return Turn::Stop;
+    }
+    if table::symbol_at(rows, p + 1) == 0 {
+        return Turn::Last(q as usize);
+    }
+    Turn::Call(q as usize)
+}
+
+// Reads the row at a place from the word `first` on, with so many levels left. Its stack is bounded: a row's last part is read in the same call,
+// so 16 * levels + the calls that the row needs before a level opens falls with each call. The start has 16 * 32 + 7: 520 calls at most stand
+// open, of 240 bytes on x86-64.
+fn read(rows: &[u8; 279], starts: &[u16; 4352], s: &[u8], at: usize, first: Here, levels: u8) -> Got
+    requires { ⌜ Ready (now rows) (now starts) (now s) at first levels ⌝ }
+    ensures { λ r. ⌜ Meets (row codes (now (rows .entry)) at) (now (s .entry)) first levels r ⌝ }
+{
+    let mut p = at;
     let mut w = first;
     let mut k = levels;
     loop {
-        let b = table::symbol_at(rows, p);
-        if b == 0 {
-            return Got { word: w, ok: true };
-        }
-        if b < 126 {
-            if w.kind != b {
-                return Got { word: w, ok: false };
+        match next_turn(rows, starts, p, w.kind, k) {
+            Turn::End => return Got { word: w, ok: true },
+            Turn::Stop => return Got { word: w, ok: false },
+            Turn::Word => {
+                w = word_from(s, w.next, w.number + 1);
+                p += 1;
+                continue;
             }
-            w = word_from(s, w.next, w.number + 1);
-            p += 1;
-            continue;
-        }
-        if b == 126 {
-            if k == 0 {
-                return Got { word: w, ok: false };
+            Turn::Level(left) => {
+                k = left;
+                p += 1;
+                continue;
             }
-            k -= 1;
-            p += 1;
-            continue;
+            Turn::Last(row) => {
+                p = row;
+                continue;
+            }
+            Turn::Call(row) => {
+                let g = read(rows, starts, s, row, w, k);
+                let v = g.word;
+                if g.ok {
+                    w = v;
+                    p += 1;
+                    continue;
+                }
+                return g;
+            }
         }
-        if b == 127 {
-            k += 1;
-            p += 1;
-            continue;
-        }
-        let q = table::start_at(starts, b, w.kind);
-        if q == 0 {
-            return Got { word: w, ok: false };
-        }
-        let row = q as usize;
-        if table::symbol_at(rows, p + 1) == 0 {
-            p = row;
-            continue;
-        }
-        let g = read(rows, starts, s, row, w, k);
-        let v = g.word;
-        if g.ok {
-            w = v;
-            p += 1;
-            continue;
-        }
-        return g;
     }
 }
 

@@ -4,6 +4,11 @@ ghost use Prim.Native.Nat.{_-_, _≤_};
 ghost use lib.ListN.{length, getD};
 ghost use Rattle.ll1.specs.Rows.{firstPart, startOf};
 
+// A symbol below this is a kind of word, this opens a level, the next closes one, and all behind it are parts.
+pub const OPENING: u8 = 126;
+
+pub const CLOSING: u8 = 127;
+
 // The byte of the rows at a place; 0 past their end.
 pub fn symbol_at(rows: &[u8; 279], p: usize) -> u8
     requires { ⌜ length (now rows) ≤ 279 ⌝ }

@@ -4,7 +4,6 @@ use mathlib.Core.Bool.{true}
 use mathlib.Core.Path.{_≡_, refl}
 use mathlib.Core.Logic.{inr}
 use native.Mathlib.Omega.{arith}
-use borrow.Author.Needs.{needs}
 use borrow.Author.Tests.{leb-true}
 use lib.Dec.{leb}
 use lib.ListN.{length}
@@ -35,6 +34,7 @@ read-requires c κs =
       closed = start-closed;
       short = c .before .before .before .before .pre .short;
       word = c .before .before .word-from .ensures .0;
+      few = omega arith;
     }
 
 returns : tie.Need-returns

@@ -1,6 +1,6 @@
 -- `grammar::word_from` meets its contract: one law of the walk for each answer of the scanner.
 -- Assumes nothing.
-use mathlib.Core.Path.{_≡_, refl}
+use mathlib.Core.Path.{refl}
 use native.Mathlib.Omega.{arith}
 use borrow.Author.Needs.{needs}
 use Rattle.words.proofs.Walk.{sound}
