@@ -1,15 +1,15 @@
 -- What a step that was given says, and that the numbers which C gets tell a value from a refusal.
 -- Assumes nothing.
 use mathlib.Core.Path.{_≡_, refl, sym, ap, _∙_, subst}
-use Prim.Native.Nat.{ℕ, _+_, _*_, _^_, _≤_, _<_}
+use Prim.Native.Nat.{ℕ, _^_, _≤_, _<_}
 use native.Mathlib.Omega.{arith}
 use mathlib.Core.Bool.{Bool, true}
 use mathlib.Core.List.{List}
 use lib.Dec.{ltb}
 use lib.Pow.{pow-mono}
-use borrow.Author.Tests.{ltb-true, lt-ltb}
+use borrow.Author.Tests.{ltb-true}
 use Rattle.file_law.specs.Answer.{Answer, gives, refuses, unsound, notInTable, unless, both}
-use Rattle.file_law.specs.Table.{mostStates, Running}
+use Rattle.file_law.specs.Table.{Running}
 use Rattle.file_law.specs.Reading.{streamIn, inputsIn, outputsIn, statesIn, outputsAt, nextAt, clearAt}
 use Rattle.file_law.specs.Stepping.{shapeGood, Shape, standsIn, standAnswer, moveAnswer, stepAnswer, lookAnswer, outputsAnswer, stepCode}
 use Rattle.file_law.proofs.Answers.{never, same, passed}

@@ -12,7 +12,7 @@ use Rattle.ll1.proofs.Parsed as parsed
 use Rattle.reach_law.specs.Search as search
 use Rattle.file_law.specs.Answer as answer
 use Rattle.file_law.specs.Answer.{Answer}
-use Rattle.file_law.specs.Table.{mostStates, Table}
+use Rattle.file_law.specs.Table.{Table}
 use Rattle.meaning.specs.Numbers as numbers
 use Rattle.meaning.specs.Tries as tries
 use Rattle.meaning.specs.Clock as clock

@@ -18,7 +18,7 @@ use Rattle.meaning.specs.Checked.{programOf}
 use Rattle.meaning.proofs.Equal.{sameState}
 use Rattle.language.specs.Texts.{Reading, good, refused, Reads}
 use Rattle.language.specs.Tables.{machineOf}
-use Rattle.language.specs.Promise.{RoomFits, workNeeded, Lent, Ended, Ready, allZero, FileOf, refusal, Compiles, one, two, fault, eleven, twelve, made}
+use Rattle.language.specs.Promise.{RoomFits, workNeeded, Lent, Ended, Ready, FileOf, refusal, Compiles, one, two, fault, eleven, twelve, made}
 use Rattle.language.proofs.Readings.{readingOf, reading-right, one-reads}
 use Rattle.language.proofs.OneTable.{one-file, some-file}
 

@@ -2,16 +2,12 @@
 -- Assumes nothing.
 use mathlib.Core.Path.{_≡_, refl, sym, _∙_, ap, subst}
 use mathlib.Core.List.{List}
-use Prim.Native.Nat.{ℕ, _^_, _<_}
-use native.Mathlib.Omega.{arith}
-use lib.ListN.{length}
-use lib.Seq.{ext-getD}
+use Prim.Native.Nat.{ℕ}
 use Rattle.reach_law.specs.Numbering.{Numbering}
 use Rattle.reach_law.proofs.Unique.{one-numbering}
-use Rattle.reach_law.proofs.Next.{one-next}
-use Rattle.file_law.specs.Table.{Table, noRow, rowOf}
+use Rattle.file_law.specs.Table.{Table}
 use Rattle.file_law.specs.File.{streamOf, fileOf}
-use Rattle.meaning.specs.States.{Program, State}
+use Rattle.meaning.specs.States.{State}
 use Rattle.meaning.specs.Declared.{Source}
 use Rattle.meaning.specs.Checked.{programOf}
 use Rattle.language.specs.Tables.{machineOf, Tabled}

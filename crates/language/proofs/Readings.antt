@@ -1,7 +1,7 @@
 -- What a text says, computed, and that it is what the text says; and that a text says one thing.
 -- Assumes nothing.
 use mathlib.Core.Bool.{Bool, true, false, cond}
-use mathlib.Core.Path.{_≡_, refl, sym, _∙_, ap, subst}
+use mathlib.Core.Path.{_≡_, refl, ap, subst}
 use mathlib.Core.Logic.{inl, inr}
 use mathlib.Core.List.{List}
 use mathlib.Core.Option.{Option, none, some}
@@ -18,7 +18,7 @@ use Rattle.meaning.specs.Faults.{Fault, faultOf}
 use Rattle.language.specs.Words.{Word, Words, words, Cut}
 use Rattle.language.specs.Words as cut
 use Rattle.language.specs.Scan.{wordsOf}
-use Rattle.language.specs.Grammar.{csml, mostLevels, wholeProgram, kinds, placeOf, Outcome, program, refuses, Checks, four, five}
+use Rattle.language.specs.Grammar.{csml, mostLevels, wholeProgram, kinds, placeOf, program, refuses, Checks, four, five}
 use Rattle.language.specs.Grammar as grammar
 use Rattle.language.specs.Trees.{Val, makes, noWord, sourceOf}
 use Rattle.language.specs.Texts.{mostBytes, Reading, good, refused, Reads, long, text, tree, fine}

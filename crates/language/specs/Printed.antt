@@ -1,11 +1,11 @@
 -- How a listing is printed: "prints this, or `refused N at P`".
 -- Assumes nothing.
-use mathlib.Core.Bool.{Bool, true, false, cond}
+use mathlib.Core.Bool.{cond}
 use mathlib.Core.List.{List, [], _∷_, _++_, map}
 use Prim.Native.Nat.{ℕ, zero, suc, _+_, _/_, _%_, _^_}
 use Prim.Native.String.{String}
 use lib.Dec.{ltb}
-use lib.ListN.{length, getD}
+use lib.ListN.{length}
 use Rattle.file_law.specs.Answer.{listed}
 use Rattle.file_law.specs.Table.{Table, Row}
 use Rattle.meaning.specs.Tree as tree

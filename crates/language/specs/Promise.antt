@@ -9,11 +9,11 @@ use Rattle.reach_law.specs.Count.{TooMany}
 use Rattle.reach_law.specs.Numbering.{Numbering}
 use Rattle.file_law.specs.Answer.{Answer, gives, refuses}
 use Rattle.file_law.specs.Table.{mostStates, Table}
-use Rattle.file_law.specs.File.{blockCount, streamOf, fileOf}
-use Rattle.meaning.specs.States.{Program, State}
+use Rattle.file_law.specs.File.{streamOf, fileOf}
+use Rattle.meaning.specs.States.{State}
 use Rattle.meaning.specs.Declared.{Source}
 use Rattle.meaning.specs.Checked.{programOf}
-use Rattle.language.specs.Texts.{Reading, good, refused, Reads}
+use Rattle.language.specs.Texts.{good, refused, Reads}
 use Rattle.language.specs.Tables.{machineOf, Tabled}
 
 -- "Room 1 to 256."

@@ -9,7 +9,7 @@ use Rattle.ll1.specs.Grammar.{Sentence}
 use Rattle.meaning.specs.Declared.{Source}
 use Rattle.meaning.specs.Faults.{Fault, faultOf}
 use Rattle.language.specs.Words.{Word, words, Cut}
-use Rattle.language.specs.Grammar.{csml, mostLevels, wholeProgram, kinds, Outcome, refuses, Checks}
+use Rattle.language.specs.Grammar.{csml, mostLevels, wholeProgram, kinds, refuses, Checks}
 use Rattle.language.specs.Trees.{sourceOf}
 
 -- "Source 8,192 bytes"

@@ -12,7 +12,7 @@ use Rattle.meaning.specs.Tree as tree
 use Rattle.meaning.specs.Tree.{plus, minus, times, quotient, remainder, equal, unequal, greater, less, and, or, Expr, literal, truth, variable, bit, not, int, arithmetic, comparison, logic, raise, lower, invert, whole, part, Head, Stmt, skip, delay, change, assign, choice, while, loop, exit, break, switch, parallel, Stmts, end, _⨾_, _∥_}
 use Rattle.meaning.specs.Declared as declared
 use Rattle.meaning.specs.Declared.{high, low, inputs, outputs, internals, integers, Source}
-use Rattle.language.specs.Words.{bytes, same, valueOf, Kind, Word}
+use Rattle.language.specs.Words.{bytes, same, valueOf, Word}
 use Rattle.language.specs.Words as cut
 use Rattle.language.specs.Grammar.{Part, Program, Declarations, Declaration, Inputs, MoreInputs, Ending, Booleans, MoreBooleans, BooleanStart, BooleanValue, Integers, MoreIntegers, IntegerStart, Statements, AfterStatement, NextStatement, Statement, Else, Cases, Branches, Target, Index, Tier, Further, _▸_, _▹_, ε, Strength, between, before, binding, tier, further, csml, mostLevels, wholeProgram, kinds}
 

@@ -4,7 +4,7 @@ use Prim.Native.Nat.{ℕ, zero, suc, _+_, max}
 use mathlib.Core.Bool.{Bool, true, false, cond}
 use mathlib.Core.List.{List, [], _∷_, _++_, map}
 use lib.Dec.{eqb}
-use lib.ListN.{length, getD, take, drop, replicate}
+use lib.ListN.{getD, take, drop, replicate}
 use Rattle.meaning.specs.Tree.{Head, Stmt, skip, delay, change, assign, choice, while, loop, exit, break, switch, parallel, Stmts, end, _⨾_, Cases, default, case, Branches, none, _∥_}
 use Rattle.meaning.specs.Numbers.{Variable, Reads, holds}
 use Rattle.meaning.specs.Tries.{Tries, noTries, changeTries, assignTries, agreed}

@@ -5,7 +5,6 @@ use mathlib.Core.Bool.{Bool, true, false, cond}
 use mathlib.Core.List.{List, [], _∷_, _++_}
 use mathlib.Core.Option.{Option, none, some}
 use Rattle.meaning.specs.Tree.{Name, Expr, literal, truth, variable, bit, not, int, arithmetic, comparison, logic, Target, whole, part, Stmt, skip, delay, change, assign, choice, while, loop, exit, break, switch, parallel}
-use Rattle.meaning.specs.Numbers.{Variable}
 use Rattle.meaning.specs.Declared.{Declaration, Source, nameOf, sameBytes, lookUp}
 use Rattle.meaning.specs.Items.{Item, statement, test, itemsAll, partsOf}
 

@@ -1,9 +1,9 @@
 -- Refusal 9: "another size passed, or width 0 | the first name (for bits too), number, statement or part too many; the `parallel`".
 -- Assumes nothing.
-use Prim.Native.Nat.{ℕ, zero, suc, _+_}
-use mathlib.Core.Bool.{Bool, true, false, cond, not as opposite}
+use Prim.Native.Nat.{ℕ, _+_}
+use mathlib.Core.Bool.{false, cond, not as opposite}
 use mathlib.Core.List.{List, [], _∷_, _++_, map}
-use lib.Dec.{leb, ltb, eqb}
+use lib.Dec.{leb, ltb}
 use lib.ListN.{drop}
 use Rattle.file_law.specs.Table.{mostInputs, mostOutputs}
 use Rattle.meaning.specs.Tree.{Name, Stmt, skip, delay, change, assign, choice, while, loop, exit, break, switch, parallel}

@@ -1,10 +1,10 @@
 -- What counts as one state, the start, and the state after a clock.
 -- Assumes nothing.
 use Prim.Native.Nat.{ℕ, _^_, _%_}
-use mathlib.Core.List.{List, [], _∷_}
+use mathlib.Core.List.{List, []}
 use Rattle.meaning.specs.Tree.{Stmts}
 use Rattle.meaning.specs.Numbers.{Variable}
-use Rattle.meaning.specs.Tries.{Tries, taken}
+use Rattle.meaning.specs.Tries.{taken}
 use Rattle.meaning.specs.Clock.{Entry, After, done, stands, Outcome, finishes, jumps, waits, widened, first, resumeAll}
 
 -- "activities 8"

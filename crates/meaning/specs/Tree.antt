@@ -1,9 +1,9 @@
 -- The tree of a program: declarations, statements and expressions, each with its place in the text.
 -- Names stand for what N says: in the tree of a text for a name, in a checked program for a variable.
 -- Assumes nothing.
-use Prim.Native.Nat.{ℕ, suc, _+_}
+use Prim.Native.Nat.{ℕ, _+_}
 use mathlib.Core.Bool.{Bool}
-use mathlib.Core.List.{List, [], _∷_}
+use mathlib.Core.List.{List}
 
 -- a name where it stands
 pub record Name : Type 0 where

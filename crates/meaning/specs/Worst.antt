@@ -1,8 +1,7 @@
 -- Refusal 10: "worst size passed | operator".
 -- Assumes nothing.
 use Prim.Native.Nat.{ℕ, _+_, _-_, _*_, _^_}
-use mathlib.Core.Bool.{Bool}
-use mathlib.Core.List.{List, [], _∷_}
+use mathlib.Core.List.{List, []}
 use mathlib.Core.Option.{Option, none, some}
 use lib.Dec.{ltb}
 use Rattle.meaning.specs.Tree.{Name, Arithmetic, plus, minus, times, quotient, remainder, Expr, literal, truth, variable, bit, not, int, arithmetic, comparison, logic}

@@ -1,10 +1,10 @@
+-- `runner::number::parse` is safe and ends: each turn takes a byte, and the value stays below 2^32.
+-- Assumes nothing.
 use borrow.Author.Needs.{needs}
-use Prim.Native.Nat.{ℕ, _-_, _^_, _≤_, _<_}
+use Prim.Native.Nat.{_-_, _^_, _≤_, _<_}
 use lib.ListN.{length}
 use Rattle.runner.proofs.number.parse.Statement.{statement}
 use Rattle.runner.proofs.number.parse.Tie as tie
-use Rattle.runner.proofs.number.parse.Reads as reads
-use Rattle.runner.proofs.number.parse.Lts as lts
 
 abbrev Inv-loop : tie.InvT-loop
 Inv-loop s value₀ i₀ value i = (i ≤ length s) × (value < 2 ^ 32)
@@ -12,59 +12,45 @@ Inv-loop s value₀ i₀ value i = (i ≤ length s) × (value < 2 ^ 32)
 abbrev μ-loop : tie.MeasureT-loop
 μ-loop s value₀ i₀ value i = length s - i
 
--- src/number.rt:11:9
 returns : tie.Need-returns Inv-loop μ-loop
 returns c = search needs
 
--- src/number.rt:15:5
 loop-holds : tie.Need-loop-holds Inv-loop μ-loop
 loop-holds c = search needs
 
--- src/number.rt:16:17
 shared-slice-read-b : tie.Need-shared-slice-read-b Inv-loop μ-loop
 shared-slice-read-b c = search needs
 
--- src/number.rt:18:13
 returns-2 : tie.Need-returns-2 Inv-loop μ-loop
 returns-2 c = search needs
 
--- src/number.rt:21:13
 returns-3 : tie.Need-returns-3 Inv-loop μ-loop
 returns-3 c = search needs
 
--- src/number.rt:23:17
 mul-value : tie.Need-mul-value Inv-loop μ-loop
 mul-value c = search needs
 
--- src/number.rt:23:30
 cast-value : tie.Need-cast-value Inv-loop μ-loop
 cast-value c = search needs
 
--- src/number.rt:23:17
 add-value : tie.Need-add-value Inv-loop μ-loop
 add-value c = search needs
 
--- src/number.rt:25:13
 returns-4 : tie.Need-returns-4 Inv-loop μ-loop
 returns-4 c = search needs
 
--- src/number.rt:27:9
 add-i : tie.Need-add-i Inv-loop μ-loop
 add-i c = search needs
 
--- src/number.rt:15:5
 loop-less : tie.Need-loop-less Inv-loop μ-loop
 loop-less c = search needs
 
--- src/number.rt:15:5
 loop-again : tie.Need-loop-again Inv-loop μ-loop
 loop-again c = search needs
 
--- src/number.rt:29:20
 cast-t13 : tie.Need-cast-t13 Inv-loop μ-loop
 cast-t13 c = search needs
 
--- src/number.rt:9:1
 returns-5 : tie.Need-returns-5 Inv-loop μ-loop
 returns-5 c = search needs
 

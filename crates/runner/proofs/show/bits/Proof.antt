@@ -1,10 +1,8 @@
+-- `runner::show::bits` is safe and ends: each turn takes an output.
+-- Assumes nothing.
 use borrow.Author.Needs.{needs}
 use Rattle.runner.proofs.show.bits.Statement.{statement}
 use Rattle.runner.proofs.show.bits.Tie as tie
-use Rattle.runner.proofs.show.bits.Reads as reads
-use Rattle.runner.proofs.show.bits.Lts as lts
-use Rattle.runner.proofs.show.number.Reads as number-reads
-use Rattle.runner.proofs.show.text.Reads as text-reads
 
 abbrev Inv-loop : tie.InvT-loop
 Inv-loop outputs count rest₀ left₀ t6 rest left = Unit {0}
@@ -12,43 +10,33 @@ Inv-loop outputs count rest₀ left₀ t6 rest left = Unit {0}
 abbrev μ-loop : tie.MeasureT-loop
 μ-loop outputs count rest₀ left₀ t6 rest left = left
 
--- src/show.rt:16:14
 slice-aggregate-text : tie.Need-slice-aggregate-text Inv-loop μ-loop
 slice-aggregate-text c = search needs
 
--- src/show.rt:16:9
 text-requires : tie.Need-text-requires Inv-loop μ-loop
 text-requires c κs = search needs
 
--- src/show.rt:20:5
 loop-holds : tie.Need-loop-holds Inv-loop μ-loop
 loop-holds c = search needs
 
--- src/show.rt:21:14
 slice-aggregate-text-2 : tie.Need-slice-aggregate-text-2 Inv-loop μ-loop
 slice-aggregate-text-2 c = search needs
 
--- src/show.rt:21:9
 text-requires-2 : tie.Need-text-requires-2 Inv-loop μ-loop
 text-requires-2 c κs = search needs
 
--- src/show.rt:22:9
 number-requires : tie.Need-number-requires Inv-loop μ-loop
 number-requires c κs = search needs
 
--- src/show.rt:24:9
 sub-left : tie.Need-sub-left Inv-loop μ-loop
 sub-left c = search needs
 
--- src/show.rt:20:5
 loop-less : tie.Need-loop-less Inv-loop μ-loop
 loop-less c = search needs
 
--- src/show.rt:20:5
 loop-again : tie.Need-loop-again Inv-loop μ-loop
 loop-again c = search needs
 
--- src/show.rt:14:1
 returns : tie.Need-returns Inv-loop μ-loop
 returns c = search needs
 
