@@ -9,7 +9,8 @@ use Rattle.language.proofs.Computing.{yieldIn, Lists, lists}
 abbrev Prints : String → String → Type 0
 Prints s l = Lists mostStates s l
 
-pub record Table : Type 0 where
+-- programs, with their tables
+pub record Good : Type 0 where
   pub good-0 : Prints "program p; skip endprog" "machine p\ninputs -\noutputs -\nstates 2\n0 - 1\n1 - 1\n"
   pub good-1 : Prints "program p; skip; skip endprog" "machine p\ninputs -\noutputs -\nstates 3\n0 - 1\n1 - 2\n2 - 2\n"
   pub good-2 : Prints "program p; loop skip endloop endprog" "machine p\ninputs -\noutputs -\nstates 1\n0 - 0\n"
@@ -40,6 +41,13 @@ pub record Table : Type 0 where
   pub good-27 : Prints "program p; output A, B; switch case true: switch case true: break; raise(A) default: raise(A) endswitch; raise(B) default: invert(A) endswitch endprog" "machine p\ninputs -\noutputs A B\nstates 3\n0 0 0 1\n1 0 1 2\n2 1 1 2\n"
   pub good-28 : Prints "program p; output A, B; parallel parallel skip || delay 2 endparallel || delay 1; raise(A) || raise(B); lower(B) endparallel; delay 1 endprog" "machine p\ninputs -\noutputs A B\nstates 4\n0 0 0 1\n1 0 1 2\n2 1 0 3\n3 1 0 3\n"
   pub good-29 : Prints "program p; integer x[16]; x := x * 32768 endprog" "machine p\ninputs -\noutputs -\nstates 2\n0 - 1\n1 - 1\n"
+
+pub good : Good
+unfolding yieldIn
+good = record { good-0 = lists refl; good-1 = lists refl; good-2 = lists refl; good-3 = lists refl; good-4 = lists refl; good-5 = lists refl; good-6 = lists refl; good-7 = lists refl; good-8 = lists refl; good-9 = lists refl; good-10 = lists refl; good-11 = lists refl; good-12 = lists refl; good-13 = lists refl; good-14 = lists refl; good-15 = lists refl; good-16 = lists refl; good-17 = lists refl; good-18 = lists refl; good-19 = lists refl; good-20 = lists refl; good-21 = lists refl; good-22 = lists refl; good-23 = lists refl; good-24 = lists refl; good-25 = lists refl; good-26 = lists refl; good-27 = lists refl; good-28 = lists refl; good-29 = lists refl }
+
+-- texts, with their refusals
+pub record Faulty : Type 0 where
   pub faulty-0 : Prints "" "refused 5 at 0\n"
   pub faulty-1 : Prints "program" "refused 5 at 7\n"
   pub faulty-2 : Prints "program p; skip" "refused 5 at 15\n"
@@ -74,6 +82,13 @@ pub record Table : Type 0 where
   pub faulty-31 : Prints "program p; switch case true: skip endswitch endprog" "refused 5 at 34\n"
   pub faulty-32 : Prints "program p; input I; output A; integer s[3]; loop compare := 1 endloop endprog" "refused 6 at 49\n"
 
-pub table : Table
+pub faulty : Faulty
 unfolding yieldIn
-table = record { good-0 = lists refl; good-1 = lists refl; good-2 = lists refl; good-3 = lists refl; good-4 = lists refl; good-5 = lists refl; good-6 = lists refl; good-7 = lists refl; good-8 = lists refl; good-9 = lists refl; good-10 = lists refl; good-11 = lists refl; good-12 = lists refl; good-13 = lists refl; good-14 = lists refl; good-15 = lists refl; good-16 = lists refl; good-17 = lists refl; good-18 = lists refl; good-19 = lists refl; good-20 = lists refl; good-21 = lists refl; good-22 = lists refl; good-23 = lists refl; good-24 = lists refl; good-25 = lists refl; good-26 = lists refl; good-27 = lists refl; good-28 = lists refl; good-29 = lists refl; faulty-0 = lists refl; faulty-1 = lists refl; faulty-2 = lists refl; faulty-3 = lists refl; faulty-4 = lists refl; faulty-5 = lists refl; faulty-6 = lists refl; faulty-7 = lists refl; faulty-8 = lists refl; faulty-9 = lists refl; faulty-10 = lists refl; faulty-11 = lists refl; faulty-12 = lists refl; faulty-13 = lists refl; faulty-14 = lists refl; faulty-15 = lists refl; faulty-16 = lists refl; faulty-17 = lists refl; faulty-18 = lists refl; faulty-19 = lists refl; faulty-20 = lists refl; faulty-21 = lists refl; faulty-22 = lists refl; faulty-23 = lists refl; faulty-24 = lists refl; faulty-25 = lists refl; faulty-26 = lists refl; faulty-27 = lists refl; faulty-28 = lists refl; faulty-29 = lists refl; faulty-30 = lists refl; faulty-31 = lists refl; faulty-32 = lists refl }
+faulty = record { faulty-0 = lists refl; faulty-1 = lists refl; faulty-2 = lists refl; faulty-3 = lists refl; faulty-4 = lists refl; faulty-5 = lists refl; faulty-6 = lists refl; faulty-7 = lists refl; faulty-8 = lists refl; faulty-9 = lists refl; faulty-10 = lists refl; faulty-11 = lists refl; faulty-12 = lists refl; faulty-13 = lists refl; faulty-14 = lists refl; faulty-15 = lists refl; faulty-16 = lists refl; faulty-17 = lists refl; faulty-18 = lists refl; faulty-19 = lists refl; faulty-20 = lists refl; faulty-21 = lists refl; faulty-22 = lists refl; faulty-23 = lists refl; faulty-24 = lists refl; faulty-25 = lists refl; faulty-26 = lists refl; faulty-27 = lists refl; faulty-28 = lists refl; faulty-29 = lists refl; faulty-30 = lists refl; faulty-31 = lists refl; faulty-32 = lists refl }
+
+pub record Table : Type 0 where
+  pub programs : Good
+  pub refusals : Faulty
+
+pub table : Table
+table = record { programs = good; refusals = faulty }
