@@ -4,16 +4,16 @@ use Prim.Native.Nat.{ℕ, zero, suc}
 use mathlib.Core.Bool.{Bool, true, false}
 use mathlib.Core.List.{List, [], _∷_}
 
--- "Every call ends with the answer or with exactly the refusal and place": a value, or a refusal's number and place
+-- what a call answers: a value, or a refusal's number and place
 pub data Answer (A : Type 0) : Type 0 where
   gives : A → Answer A
   refuses : ℕ → ℕ → Answer A
 
--- "13 | table file not sound"
+-- F5, F7: a table file that is not sound
 abbrev pub unsound : ℕ
 unsound = 13
 
--- "14 | state or input not in the table"
+-- F7: a state or an input that the table does not have
 abbrev pub notInTable : ℕ
 notInTable = 14
 

@@ -4,7 +4,7 @@ use Prim.Native.Nat.{ℕ, _+_, _*_, _/_, _%_}
 use mathlib.Core.List.{List, [], _∷_, _++_}
 use lib.ListN.{length, getD, take, drop}
 
--- "All numbers go low byte first": two bytes
+-- F1: low byte first: two bytes
 abbrev pub low2 : ℕ → List ℕ
 low2 n = n % 256 ∷ n / 256 % 256 ∷ []
 

@@ -13,7 +13,7 @@ unfoldable pub words : List ℕ → List ℕ
 words [] = []
 words (n ∷ s) = low2 n ++ words s
 
--- "per state outputs (2; first declared lowest) and 2^k next states (2 each)"
+-- F1: a state's outputs and next states
 unfoldable pub rowBytes : Row → List ℕ
 rowBytes r = low2 (r .outputs) ++ words (r .nexts)
 
@@ -21,19 +21,19 @@ unfoldable pub rowsBytes : List Row → List ℕ
 rowsBytes [] = []
 rowsBytes (r ∷ rs) = rowBytes r ++ rowsBytes rs
 
--- "Stream: inputs k (1 byte), outputs (1), states N (2), then" the rows
+-- F1: the sizes, then the rows
 unfoldable pub streamOf : Table → List ℕ
 streamOf t = t .inputs ∷ t .outputs ∷ (low2 (length (t .rows)) ++ rowsBytes (t .rows))
 
--- "The stream is cut in 504-byte pieces, the last filled with zeros": the piece that what is left of the stream begins with
+-- F2: the piece that what is left of the stream begins with
 unfoldable pub pieceOf : List ℕ → List ℕ
 pieceOf rest = take 504 (rest ++ replicate 504 0)
 
--- "number from 0 (2), blocks in the file (2), piece": the first 508 bytes of a block
+-- F3: the first 508 bytes of a block
 unfoldable pub bodyOf : ℕ → ℕ → List ℕ → List ℕ
 bodyOf number total rest = low2 number ++ (low2 total ++ pieceOf rest)
 
--- "A block has 512 bytes: .. CRC-32 of the first 508"
+-- F3: a block, with its check
 unfoldable pub blockOf : ℕ → ℕ → List ℕ → List ℕ
 blockOf number total rest = bodyOf number total rest ++ low4 (crcOf (bodyOf number total rest))
 
@@ -49,7 +49,7 @@ blockCount bytes = (bytes + 503) / 504
 unfoldable pub fileOf : List ℕ → List ℕ
 fileOf stream = blocks (blockCount (length stream)) (blockCount (length stream)) stream
 
--- "Each block is written into its own 512 bytes of the lent file buffer"; a buffer that ends before them is left alone
+-- F3, F4: a block in its own 512 bytes of the lent buffer; one that ends before them is left alone
 unfoldable pub withBlock : List ℕ → ℕ → ℕ → List ℕ → List ℕ
 withBlock buffer number total rest =
     unless (leb (512 * number + 512) (length buffer)) buffer (patch buffer (512 * number) (blockOf number total rest))

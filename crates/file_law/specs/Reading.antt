@@ -11,15 +11,15 @@ use Rattle.file_law.specs.Bytes.{word2, word4, bytesOf}
 use Rattle.file_law.specs.Table.{mostInputs, mostOutputs, mostStates, Row, Table}
 use Rattle.file_law.specs.File.{blockCount}
 
--- "The largest file is 67 blocks."
+-- F4: the largest file
 abbrev pub mostBlocks : ℕ
 mostBlocks = 67
 
--- "length zero, not whole blocks or over 67 (place 0)"
+-- F5: the length
 abbrev pub lengthGood : ℕ → Bool
 lengthGood bytes = both (leb 1 bytes) (both (eqb (bytes % 512) 0) (leb (bytes / 512) mostBlocks))
 
--- "a wrong number, total or check": block n of the file has the right ones
+-- F5: block n of the file has the right number, total and check
 unfoldable pub blockGood : List ℕ → ℕ → ℕ → Bool
 blockGood f total n =
     both (eqb (word2 (bytesOf f) (512 * n)) n)
@@ -34,7 +34,7 @@ place j = 512 * (j / 504) + 4 + j % 504
 unfoldable pub streamIn : List ℕ → ℕ → ℕ
 streamIn f j = getD f (place j) 0
 
--- "Stream: inputs k (1 byte), outputs (1), states N (2)"
+-- F1: the sizes
 abbrev pub inputsIn : (ℕ → ℕ) → ℕ
 inputsIn b = b 0
 
@@ -44,7 +44,7 @@ outputsIn b = b 1
 abbrev pub statesIn : (ℕ → ℕ) → ℕ
 statesIn b = word2 b 2
 
--- "then per state outputs (2) and 2^k next states (2 each)": the length of a row, and where a state's row begins
+-- F1: the length of a row, and where a state's row begins
 abbrev pub rowLength : ℕ → ℕ
 rowLength k = 2 + 2 * 2 ^ k
 
@@ -64,7 +64,7 @@ outputsAt b k state = word2 b (rowAt k state)
 unfoldable pub nextAt : (ℕ → ℕ) → ℕ → ℕ → ℕ → ℕ
 nextAt b k state input = word2 b (rowAt k state + 2 + 2 * input)
 
--- "k, outputs or N outside the sizes (N as the room)"
+-- F5: sizes in their range
 abbrev pub sizesGood : ℕ → ℕ → ℕ → Bool
 sizesGood k o n = both (leb k mostInputs) (both (leb o mostOutputs) (both (leb 1 n) (leb n mostStates)))
 
@@ -75,22 +75,22 @@ pub record Within (k o n : ℕ) : Type 0 where
   pub some : 1 ≤ n
   pub states : n ≤ mostStates
 
--- "spare output bits .. not zero": those at and above the number of outputs
+-- F5: bits at and above the number of outputs
 abbrev pub clearAt : (ℕ → ℕ) → ℕ → ℕ → ℕ → Bool
 clearAt b k o state = ltb (outputsAt b k state) (2 ^ o)
 
--- "filling not zero"
+-- F5: filling
 abbrev pub zeroAt : (ℕ → ℕ) → ℕ → Bool
 zeroAt b j = eqb (b j) 0
 
--- "a next state not below N"
+-- F5: next states
 abbrev pub nextGood : (ℕ → ℕ) → ℕ → ℕ → ℕ → ℕ → Bool
 nextGood b k n state input = ltb (nextAt b k state input) n
 
 abbrev pub nextsGood : (ℕ → ℕ) → ℕ → ℕ → ℕ → Bool
 nextsGood b k n state = every (nextGood b k n state) (2 ^ k) 0
 
--- "wrong block count, spare output bits or filling not zero, a next state not below N"
+-- F5: the content
 unfoldable pub rowsGood : (ℕ → ℕ) → ℕ → ℕ → ℕ → ℕ → Bool
 rowsGood b total k o n =
     both (eqb (blocksFor k n) total)
@@ -98,7 +98,7 @@ rowsGood b total k o n =
     (both (every (zeroAt b) (504 * total - streamLength k n) (streamLength k n))
     (every (nextsGood b k n) n 0)))
 
--- "then k, outputs or N outside the sizes .."
+-- F5: the sizes, then the content
 unfoldable pub contentGood : (ℕ → ℕ) → ℕ → Bool
 contentGood b total =
     both (sizesGood (inputsIn b) (outputsIn b) (statesIn b)) (rowsGood b total (inputsIn b) (outputsIn b) (statesIn b))
@@ -118,7 +118,7 @@ blocksAnswer f total =
     (unless (contentGood (streamIn f) total) (refuses unsound 0)
     (gives (sizesIn (streamIn f))))
 
--- "Reading refuses with 13: .. All else is accepted."
+-- F5: opening; all that is not refused is accepted
 unfoldable pub openAnswer : List ℕ → Answer Sizes
 openAnswer f = unless (lengthGood (length f)) (refuses unsound 0) (blocksAnswer f (length f / 512))
 

@@ -10,7 +10,7 @@ use Rattle.file_law.specs.Answer.{Answer, gives, refuses, unsound, notIn
 use Rattle.file_law.specs.Table.{Running}
 use Rattle.file_law.specs.Reading.{streamIn, inputsIn, outputsIn, statesIn, blocksFor, sizesGood, Within, Sizes, sizesIn, outputsAt, nextAt, clearAt, openAnswer}
 
--- "a length under 512, k, outputs or N outside the sizes, or a length other than the one they call for (13)"
+-- F7: length and sizes
 unfoldable pub shapeGood : List ℕ → Bool
 shapeGood f =
     both (leb 512 (length f))
@@ -23,7 +23,7 @@ pub record Shape (f : List ℕ) : Type 0 where
   pub size : Within (inputsIn (streamIn f)) (outputsIn (streamIn f)) (statesIn (streamIn f))
   pub exact : length f ≡ 512 * blocksFor (inputsIn (streamIn f)) (statesIn (streamIn f))
 
--- "the length .. they call for": of a file with the sizes k, o and n
+-- F7: a file of the sizes k, o and n has the length that they make
 pub record Sized (f : List ℕ) (k o n : ℕ) : Type 0 where
   pub size : Within k o n
   pub exact : length f ≡ 512 * blocksFor k n
@@ -35,24 +35,24 @@ shapeAnswer f = unless (shapeGood f) (refuses unsound 0) (gives (sizesIn (stream
 abbrev pub standsIn : (ℕ → ℕ) → ℕ → ℕ → Running
 standsIn b k state = record { state = state; outputs = outputsAt b k state }
 
--- "its spare output bits not zero (13)"
+-- F7: a state with its outputs, unless an undeclared bit is set
 unfoldable pub standAnswer : (ℕ → ℕ) → ℕ → ℕ → ℕ → Answer Running
 standAnswer b k o state = unless (clearAt b k o state) (refuses unsound 0) (gives (standsIn b k state))
 
--- "state or input not in the table (14); the next state read not below N, or its spare output bits not zero (13)"
+-- F7: the state and the input, then the next state
 unfoldable pub moveAnswer : (ℕ → ℕ) → ℕ → ℕ → ℕ → ℕ → ℕ → Answer Running
 moveAnswer b k o n state input =
     unless (both (ltb state n) (ltb input (2 ^ k))) (refuses notInTable 0)
     (unless (ltb (nextAt b k state input) n) (refuses unsound 0)
     (standAnswer b k o (nextAt b k state input)))
 
--- "A step refuses, in this order and at place 0: .. It doesn't recheck CRCs."
+-- F7: a step; no check is computed
 unfoldable pub stepAnswer : List ℕ → ℕ → ℕ → Answer Running
 stepAnswer f state input =
     unless (shapeGood f) (refuses unsound 0)
     (moveAnswer (streamIn f) (inputsIn (streamIn f)) (outputsIn (streamIn f)) (statesIn (streamIn f)) state input)
 
--- house: the outputs of a state, refused as a step is, without the input
+-- F8: the outputs of a state, refused as a step is, without the input
 unfoldable pub lookAnswer : (ℕ → ℕ) → ℕ → ℕ → ℕ → ℕ → Answer Running
 lookAnswer b k o n state = unless (ltb state n) (refuses notInTable 0) (standAnswer b k o state)
 
@@ -61,7 +61,7 @@ outputsAnswer f state =
     unless (shapeGood f) (refuses unsound 0)
     (lookAnswer (streamIn f) (inputsIn (streamIn f)) (outputsIn (streamIn f)) (statesIn (streamIn f)) state)
 
--- "Opening a sound file sets it to state 0 and that state's outputs."
+-- F6: opening stands at state 0 with its outputs
 abbrev pub startIn : (ℕ → ℕ) → Answer Sizes → Answer Running
 startIn b (gives z) = gives (standsIn b (z .inputs) 0)
 startIn b (refuses number at) = refuses number at
@@ -69,7 +69,7 @@ startIn b (refuses number at) = refuses number at
 unfoldable pub startAnswer : List ℕ → Answer Running
 startAnswer f = startIn (streamIn f) (openAnswer f)
 
--- "For a refusal the record stays."
+-- F7: a refusal leaves the record
 abbrev pub after : Answer Running → Running → Running
 after (gives r) c = r
 after (refuses number at) c = c
@@ -86,17 +86,17 @@ runAnswers f c inputs = startAnswer f ∷ stepsFrom f (after (startAnswer f) c) 
 
 -- ---- what C gets
 
--- "it gets a next state, or 65,536 plus the refusal number"
+-- F9: what a step gives to C
 abbrev pub stepCode : Answer Running → ℕ
 stepCode (gives r) = r .state
 stepCode (refuses number at) = 65536 + number
 
--- house: outputs, or 65,536 plus the refusal number
+-- F9: what asking for outputs gives to C
 abbrev pub outputsCode : Answer Running → ℕ
 outputsCode (gives r) = r .outputs
 outputsCode (refuses number at) = 65536 + number
 
--- house: the outputs of state 0, or the refusal times 2^32 plus its place
+-- F9: what opening gives to C
 abbrev pub openCode : Answer Running → ℕ
 openCode (gives r) = r .outputs
 openCode (refuses number at) = number * 2 ^ 32 + at

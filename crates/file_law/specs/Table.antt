@@ -5,7 +5,7 @@ use Prim.Native.Nat.{ℕ, _^_, _≤_, _<_}
 use mathlib.Core.List.{List, [], _∷_}
 use lib.ListN.{length, getD}
 
--- "inputs 6; outputs 16", "Room 1 to 256"
+-- Z2, Z10
 abbrev pub mostInputs : ℕ
 mostInputs = 6
 
@@ -15,12 +15,12 @@ mostOutputs = 16
 abbrev pub mostStates : ℕ
 mostStates = 256
 
--- "per state outputs (2; first declared lowest) and 2^k next states"
+-- F1: the row of a state
 pub record Row : Type 0 where
   pub outputs : ℕ
   pub nexts : List ℕ
 
--- "inputs k (1 byte), outputs (1), states N (2)": the rows are N
+-- F1: the sizes; the rows are N
 pub record Table : Type 0 where
   pub inputs : ℕ
   pub outputs : ℕ
@@ -52,7 +52,7 @@ pub record Fits (t : Table) : Type 0 where
   pub states : length (t .rows) ≤ mostStates
   pub each : (state : ℕ) → state < length (t .rows) → RowFits t (rowOf t state)
 
--- "state number and present outputs"
+-- F6: the running record
 pub record Running : Type 0 where
   pub state : ℕ
   pub outputs : ℕ
@@ -65,6 +65,6 @@ unfoldable pub clocks : Table → ℕ → List ℕ → List Running
 clocks t state [] = []
 clocks t state (input ∷ inputs) = standing t (nextOf t state input) ∷ clocks t (nextOf t state input) inputs
 
--- "at the start and after each clock": "State 0 is the start"
+-- F6, S4: at the start and after each clock
 unfoldable pub tableRun : Table → List ℕ → List Running
 tableRun t inputs = standing t 0 ∷ clocks t 0 inputs

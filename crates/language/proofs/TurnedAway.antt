@@ -2,7 +2,7 @@
 -- Assumes nothing.
 use mathlib.Core.Path.{_≡_, sym, _∙_, ap, subst}
 use mathlib.Core.List.{List, [], _∷_, map}
-use Prim.Native.Nat.{ℕ, zero, suc, _+_, _*_, _/_, _≤_, _<_}
+use Prim.Native.Nat.{ℕ, zero, suc, _+_, _*_, _/_, _^_, _≤_, _<_}
 use native.Mathlib.Decide.{decLt}
 use native.Mathlib.Omega.{arith}
 use lib.Dec.{eqb}
@@ -16,7 +16,7 @@ use Rattle.file_law.specs.Bytes.{bytesOf, word2}
 use Rattle.file_law.specs.Table.{mostStates, Table, Fits, Running, clocks, tableRun}
 use Rattle.file_law.specs.File.{streamOf, fileOf}
 use Rattle.file_law.specs.Reading.{mostBlocks, Sizes, blockGood, openAnswer}
-use Rattle.file_law.specs.Stepping.{runAnswers, outputsCode}
+use Rattle.file_law.specs.Stepping.{stepAnswer, startAnswer, after, runAnswers, outputsCode}
 use Rattle.file_law.proofs.Every.{both-left, both-right}
 use Rattle.file_law.proofs.Tests.{blocks-small}
 use Rattle.file_law.proofs.Sound.{Sound, sound}
@@ -161,21 +161,41 @@ Stepper = List ℕ → Running → List ℕ → List (Answer Running)
 abbrev at : List (Answer Running) → ℕ → Answer Running
 at answers clock = getD answers clock (refuses 0 0)
 
--- its answer at the second clock is that of the first
-pub idle-later : (r : Stepper) → ((file : List ℕ) (c : Running) (x y : ℕ) → at (r file c (x ∷ y ∷ [])) 2 ≡ at (r file c (x ∷ y ∷ [])) 1)
-    → ¬ ((file : List ℕ) (c : Running) (w : List ℕ) → r file c w ≡ runAnswers file c w)
+-- from a file that opens and inputs of its table on: where the first clock is answered with a record, the second is answered with the same one. Nothing is asked for other files, or after a refusal.
+abbrev pub IdleLater : Stepper → Type 0
+IdleLater r =
+    (file : List ℕ) (c first : Running) (z : Sizes) (x y : ℕ) → openAnswer file ≡ gives z → x < 2 ^ z .inputs → y < 2 ^ z .inputs
+    → at (r file c (x ∷ y ∷ [])) 1 ≡ gives first → at (r file c (x ∷ y ∷ [])) 2 ≡ gives first
+
+pub idle-later : (r : Stepper) → IdleLater r → ¬ ((file : List ℕ) (c : Running) (w : List ℕ) → r file c w ≡ runAnswers file c w)
 unfolding clocks tableRun
 idle-later r same keeps =
     let file = fileOf (streamOf blink) in
     let w : List ℕ = 1 ∷ 1 ∷ [] in
     let e : r file off w ≡ map gives (tableRun blink w) = keeps file off w ∙ written-runs blink (says-fits blink-says) off w on in
-    let idle : _≡_ {A = ℕ} 0 1 = ap outputsCode (subst (λ (l : List (Answer Running)). at l 2 ≡ at l 1) e (same file off 1 1)) in
+    let first : at (r file off w) 1 ≡ gives lit = ap (λ (l : List (Answer Running)). at l 1) e in
+    let second : at (r file off w) 2 ≡ gives lit = same file off lit _ 1 1 (accepted blink (says-fits blink-says)) (omega arith) (omega arith) first in
+    let idle : _≡_ {A = ℕ} 0 1 = ap outputsCode (sym (ap (λ (l : List (Answer Running)). at l 2) e) ∙ second) in
     omega arith
   where
     off : Running
     off = record { state = 0; outputs = 0 }
 
+    lit : Running
+    lit = record { state = 1; outputs = 1 }
+
     on : (j : ℕ) → getD (1 ∷ 1 ∷ []) j 0 < 2
     on zero = omega arith
     on (suc zero) = omega arith
     on (suc (suc j)) = omega arith
+
+-- such a stepper: it opens and makes the first clock as it should, and from then on answers its record
+abbrev firstOf : List ℕ → Running → ℕ → Answer Running
+firstOf file c x = stepAnswer file (after (startAnswer file) c .state) x
+
+abbrev pub idleStepper : Stepper
+idleStepper file c [] = startAnswer file ∷ []
+idleStepper file c (x ∷ w) = startAnswer file ∷ firstOf file c x ∷ map (λ y. gives (after (firstOf file c x) (after (startAnswer file) c))) w
+
+pub idle-stepper : ¬ ((file : List ℕ) (c : Running) (w : List ℕ) → idleStepper file c w ≡ runAnswers file c w)
+idle-stepper = idle-later idleStepper (λ file c first z x y opened h k one. ap (λ (a : Answer Running). gives (after a (after (startAnswer file) c))) one)

@@ -60,6 +60,15 @@ pub record Examples : Type 0 where
   pub form-feed : of "\u{c}" ≡ four 0
   pub high : shown (wordsOf (97 ∷ 128 ∷ [])) ≡ four 1
   pub blanks : of " \t\n\r" ≡ cut []
+  -- letters end at `A`, `Z`, `a` and `z`, digits at 0 and 9
+  pub letters-end : of "AZaz09" ≡ cut (name at 0 ∷ [])
+  pub digits-end : of "09" ≡ cut (number at 0 ∷ [])
+  pub before-A : of "a@" ≡ four 1
+  pub after-Z : of "a[" ≡ cut (name at 0 ∷ the "[" at 1 ∷ [])
+  pub before-a : of "a`" ≡ four 1
+  pub after-z : of "a{" ≡ four 1
+  pub before-0 : of "1/" ≡ cut (number at 0 ∷ the "/" at 1 ∷ [])
+  pub after-9 : of "1:" ≡ cut (number at 0 ∷ the ":" at 1 ∷ [])
 
 pub examples : Examples
 unfolding wordsIn
@@ -89,4 +98,12 @@ examples =
       form-feed = refl;
       high = refl;
       blanks = refl;
+      letters-end = refl;
+      digits-end = refl;
+      before-A = refl;
+      after-Z = refl;
+      before-a = refl;
+      after-z = refl;
+      before-0 = refl;
+      after-9 = refl;
     }

@@ -1,4 +1,4 @@
--- The grammar of document 01, "The language we compile", with the levels of "Sizes", and refusal 5.
+-- G1 to G10: the grammar with its levels, and fault 5.
 -- A row reads from left to right: ▸ stands behind a word that is spelled, ▪ behind a name or a number, ▹ behind a part, and ε ends it; ∣ parts the rows of a part, and ∎ ends them.
 -- Assumes nothing.
 use mathlib.Core.List.{List, [], _∷_, _++_, map}
@@ -57,7 +57,7 @@ pub data Strength : Type 0 where
   between : List String → Strength
   before : String → Strength
 
--- "Binding, lowest to highest, as 000 and 001 print it: `== != > <`; `&`; `|`; `!`; `+ -`; `* / %`."
+-- G7: from the loosest to the tightest
 unfoldable pub binding : List Strength
 binding =
     between ("==" ∷ "!=" ∷ ">" ∷ "<" ∷ []) ∷ between ("&" ∷ []) ∷ between ("|" ∷ [])
@@ -65,7 +65,7 @@ binding =
     ∷ between ("+" ∷ "-" ∷ []) ∷ between ("*" ∷ "/" ∷ "%" ∷ [])
     ∷ []
 
--- a literal, a name, a bit, `int` of an expression, an expression in parentheses: "each open `(` of any use .. is one level"
+-- G8: operands; G9: each `(` is a level
 abbrev pub operand : List Line
 operand =
     name ▪ Index ▹ ε
@@ -76,7 +76,7 @@ operand =
     ∣ level ("(" ▸ Expression ▹ ")" ▸ ε)
     ∣ ∎
 
--- "Binary operators group from the left": an operand that binds higher, then what follows it. "each `!` with its operand is one level". Past the highest stand the operands, so "An arithmetic operator's operand can't begin with `!`"
+-- G7: from the left, so an operand that binds higher, then what follows it. G9: each `!` with its operand is a level. Past the highest stand the operands, so that none of an arithmetic operator begins with `!` (G8)
 abbrev pub tier : ℕ → Option Strength → List Line
 tier n (some (between ops)) = Tier (suc n) ▹ Further n ▹ ε ∣ ∎
 tier n (some (before op)) = level (op ▸ Tier n ▹ ε) ∣ Tier (suc n) ▹ ε ∣ ∎
@@ -92,10 +92,10 @@ further n none = ε ∣ ∎
 
 -- each part, and the rows that it can be written as
 unfoldable pub csml : Grammar Kind Part
--- "A program is `program name;`, then zero or more declarations each closed by `;`, then a statement list, then `endprog`"
+-- G1
 csml Program = "program" ▸ name ▪ ";" ▸ Declarations ▹ Statements ▹ "endprog" ▸ ε ∣ ∎
 csml Declarations = ε ∣ Declaration ▹ ";" ▸ Declarations ▹ ε ∣ ∎
--- "Declarations are `input`, `output`, `internal` and `integer`, with comma lists, initialisers and the endings `.H` and `.L`."
+-- G2, G3, G4
 csml Declaration = "input" ▸ Inputs ▹ ε ∣ "output" ▸ Booleans ▹ ε ∣ "internal" ▸ Booleans ▹ ε ∣ "integer" ▸ Integers ▹ ε ∣ ∎
 csml Inputs = name ▪ Ending ▹ MoreInputs ▹ ε ∣ ∎
 csml MoreInputs = ε ∣ "," ▸ Inputs ▹ ε ∣ ∎
@@ -107,11 +107,11 @@ csml BooleanValue = "true" ▸ ε ∣ "false" ▸ ε ∣ ∎
 csml Integers = name ▪ "[" ▸ number ▪ "]" ▸ IntegerStart ▹ MoreIntegers ▹ ε ∣ ∎
 csml MoreIntegers = ε ∣ "," ▸ Integers ▹ ε ∣ ∎
 csml IntegerStart = ε ∣ "=" ▸ number ▪ ε ∣ ∎
--- "A statement list is one or more statements parted by `;`, with one spare `;` allowed at its end (house)."
+-- G5
 csml Statements = Statement ▹ AfterStatement ▹ ε ∣ ∎
 csml AfterStatement = ε ∣ ";" ▸ NextStatement ▹ ε ∣ ∎
 csml NextStatement = ε ∣ Statements ▹ ε ∣ ∎
--- "Statements: `skip`, `delay n`, `raise`, `lower`, `invert` of a boolean or an integer's bit, `:=` to a plain name, ..": "each open compound statement .. is one level", from its first word on
+-- G6; G9: a compound statement is a level from its first word on
 csml Statement =
     "skip" ▸ ε
     ∣ "delay" ▸ number ▪ ε
@@ -128,16 +128,16 @@ csml Statement =
     ∣ level ("parallel" ▸ Statements ▹ "||" ▸ Statements ▹ Branches ▹ "endparallel" ▸ ε)
     ∣ ∎
 csml Else = ε ∣ "else" ▸ Statements ▹ ε ∣ ∎
--- "`switch` with one or more cases and a last, required `default`, a list each"
+-- G6: one case or more, and the default
 csml Cases = ε ∣ "case" ▸ Expression ▹ ":" ▸ Statements ▹ Cases ▹ ε ∣ ∎
--- "`parallel` with two or more branches"
+-- G6: two branches or more
 csml Branches = ε ∣ "||" ▸ Statements ▹ Branches ▹ ε ∣ ∎
 csml Target = name ▪ Index ▹ ε ∣ ∎
 csml Index = ε ∣ "[" ▸ number ▪ "]" ▸ ε ∣ ∎
 csml (Tier n) = tier n (getElem? binding n)
 csml (Further n) = further n (getElem? binding n)
 
--- "levels 32"
+-- Z9
 abbrev pub mostLevels : ℕ
 mostLevels = 32
 
@@ -151,7 +151,7 @@ wholeProgram = Program ▹ ε
 abbrev pub kinds : List Word → List Kind
 kinds ws = map (λ w. w .kind) ws
 
--- "that word, or the length": the place of word number e
+-- G10: the place of word number e; that of the end is the length
 abbrev pub placeOf : List ℕ → List Word → ℕ → ℕ
 placeOf s ws e = getD (map (λ w. w .place) ws) e (length s)
 
@@ -160,7 +160,7 @@ pub data Outcome : Type 0 where
   program : List Word → Outcome
   refuses : ℕ → ℕ → Outcome
 
--- "The lowest number wins": 4 "no word starts here, name or number too large", then 5 "the grammar lets no program continue so (the end of the text included), or level 33 opens"
+-- R1: 4 (W7) comes before 5 (G10)
 pub data Checks (s : List ℕ) : Outcome → Type 0 where
   four : {e : ℕ} → Cut 0 s (cut.refused e) → Checks s (refuses 4 e)
   five : {ws : List Word} {e : ℕ} → Cut 0 s (words ws) → Answers csml mostLevels wholeProgram (kinds ws) (refused e) → Checks s (refuses 5 (placeOf s ws e))

@@ -19,12 +19,12 @@ use Rattle.language.specs.Printed.{listingOf, refusalLine}
 pub data Yields (room : ℕ) (s : List ℕ) : Answer (Source × Table) → Type 0 where
   -- 3 to 10, a fault of the text
   fault : {number place : ℕ} → Reads s (refused number place) → Yields room s (refuses number place)
-  -- "11 | reachable states above the room"
+  -- 11 (S6)
   many : {src : Source} → Reads s (good src) → TooMany (machineOf (programOf src)) room → Yields room s (refuses 11 0)
-  -- "states are numbered as first met"
+  -- S6
   table : {src : Source} {states : List State} {t : Table} → Reads s (good src) → Numbering (machineOf (programOf src)) states → length states ≤ room → Tabled (programOf src) states t → Yields room s (gives (src, t))
 
--- "prints this, or `refused N at P`"
+-- L1, L2
 abbrev pub printed : Answer (Source × Table) → List ℕ
 printed (gives x) = listingOf (x .0) (x .1)
 printed (refuses number place) = refusalLine number place
@@ -35,6 +35,6 @@ pub record PrintsIn (room : ℕ) (s out : List ℕ) : Type 0 where
   pub yields : Yields room s answer
   pub is : out ≡ printed answer
 
--- "The listing program reads source on standard input with room 256"
+-- L2: the listing program has room 256
 abbrev pub Prints : List ℕ → List ℕ → Type 0
 Prints = PrintsIn mostStates

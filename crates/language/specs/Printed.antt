@@ -1,4 +1,4 @@
--- How a listing is printed: "prints this, or `refused N at P`".
+-- L1, L2: how a listing is printed.
 -- Assumes nothing.
 use mathlib.Core.Bool.{cond}
 use mathlib.Core.List.{List, [], _∷_, _++_, map}
@@ -21,7 +21,7 @@ decimalBy (suc f) n = cond (ltb n 10) ((48 + n) ∷ []) (decimalBy f (n / 10) ++
 abbrev pub decimal : ℕ → List ℕ
 decimal n = decimalBy 10 n
 
--- "Single blanks, each line ended by LF."
+-- L1: one blank between words, a line feed behind a line
 unfoldable pub spaced : List (List ℕ) → List ℕ
 spaced [] = 10 ∷ []
 spaced (w ∷ ws) = 32 ∷ (w ++ spaced ws)
@@ -29,7 +29,7 @@ spaced (w ∷ ws) = 32 ∷ (w ++ spaced ws)
 abbrev pub line : String → List (List ℕ) → List ℕ
 line first ws = bytes first ++ spaced ws
 
--- "Missing names or bits are one `-`."
+-- L1: a dash for no name and for no bit
 abbrev pub orDash : List (List ℕ) → List (List ℕ)
 orDash [] = bytes "-" ∷ []
 orDash (w ∷ ws) = w ∷ ws
@@ -46,11 +46,11 @@ outputName (outputs n e b) = n .bytes ∷ []
 outputName (internals n e b) = []
 outputName (integers n p w v) = []
 
--- "output bits in declared order": first declared lowest
+-- L1: output bits, the first declared first
 abbrev pub outputBits : ℕ → ℕ → List (List ℕ)
 outputBits count word = listed (λ j. decimal (word / 2 ^ j % 2)) count 0
 
--- "A row is state, output bits in declared order, next states."
+-- L1: the line of a state
 abbrev pub rowLine : ℕ → ℕ → Row → List ℕ
 rowLine count state r = decimal state ++ spaced (orDash (outputBits count (r .outputs)) ++ map decimal (r .nexts))
 

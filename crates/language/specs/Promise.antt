@@ -16,16 +16,16 @@ use Rattle.meaning.specs.Checked.{programOf}
 use Rattle.language.specs.Texts.{good, refused, Reads}
 use Rattle.language.specs.Tables.{machineOf, Tabled}
 
--- "Room 1 to 256."
+-- Z10: room
 pub record RoomFits (room : ℕ) : Type 0 where
   pub some : 1 ≤ room
   pub few : room ≤ mostStates
 
--- "Work area 32,768 + 64 × room bytes."
+-- Z10: work area
 abbrev pub workNeeded : ℕ → ℕ
 workNeeded room = 32768 + 64 * room
 
--- "Success gives the state count and block count"
+-- R3: what success tells
 pub record Made : Type 0 where
   pub states : ℕ
   pub blocks : ℕ
@@ -48,7 +48,7 @@ pub record Ready (l : Lent) : Type 0 where
   pub room : RoomFits (l .room)
   pub work : workNeeded (l .room) ≤ length (l .work)
 
--- "every other end of a compile leaves it all zero": its whole length
+-- R2: all of it is zero
 abbrev pub allZero : List ℕ → List ℕ
 allZero work = replicate (length work) 0
 
@@ -62,20 +62,20 @@ pub record FileOf (s : Source) (states : List State) (file : List ℕ) : Type 0 
 abbrev pub refusal : Lent → List ℕ → ℕ → ℕ → Ended
 refusal l work number place = record { answer = refuses number place; work = work; buffer = l .buffer }
 
--- "Given exactly when", in the order of the numbers
+-- R1, R2, R3: how a compile ends, in the order of the numbers
 pub data Compiles (l : Lent) : Ended → Type 0 where
-  -- "1 | room outside 1..256", "refusals 1 and 2 leave the work area alone"
+  -- 1 (Z10); the work area stays (R2)
   one : (l .room < 1) ⊎ (mostStates < l .room) → Compiles l (refusal l (l .work) 1 0)
-  -- "2 | work area short"
+  -- 2 (Z10); the work area stays (R2)
   two : RoomFits (l .room) → length (l .work) < workNeeded (l .room) → Compiles l (refusal l (l .work) 2 0)
   -- 3 to 10, a fault of the text
   fault : {number place : ℕ} → Ready l → Reads (l .source) (refused number place) → Compiles l (refusal l (allZero (l .work)) number place)
-  -- "11 | reachable states above the room"
+  -- 11 (S6)
   eleven : {s : Source} → Ready l → Reads (l .source) (good s) → TooMany (machineOf (programOf s)) (l .room) → Compiles l (refusal l (allZero (l .work)) 11 0)
-  -- "12 | file buffer short"
+  -- 12 (F4)
   twelve : {s : Source} {states : List State} {file : List ℕ} → Ready l → Reads (l .source) (good s) → FileOf s states file → length states ≤ l .room
       → length (l .buffer) < length file → Compiles l (refusal l (allZero (l .work)) 12 0)
-  -- "Success gives the state count and block count, and bytes past the file stay."
+  -- R3: the file, and what stands behind it stays
   made : {s : Source} {states : List State} {file : List ℕ} → Ready l → Reads (l .source) (good s) → FileOf s states file → length states ≤ l .room
       → length file ≤ length (l .buffer)
       → Compiles l (record { answer = gives (record { states = length states; blocks = length file / 512 }); work = allZero (l .work); buffer = file ++ drop (length file) (l .buffer) })

@@ -10,11 +10,11 @@ use Rattle.file_law.specs.Table.{Table, rowOf, nextOf}
 use Rattle.file_law.specs.Table as file
 use Rattle.meaning.specs.States.{Program, State, startState, stepState, outputsOf}
 
--- "Inputs are numbered by bits": there are 2^k of them
+-- S5: the inputs are one number below 2^k
 unfoldable pub machineOf : Program → Machine State
 machineOf p = record { start = startState p; step = stepState p; inputs = 2 ^ p .inputs }
 
--- the table of a program whose states are numbered so: "per state outputs .. and 2^k next states"
+-- F1: the table of a program whose states are numbered so
 pub record Tabled (p : Program) (states : List State) (t : Table) : Type 0 where
   pub inputs : t .inputs ≡ p .inputs
   pub outputs : t .outputs ≡ p .outputs

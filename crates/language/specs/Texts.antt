@@ -12,7 +12,7 @@ use Rattle.language.specs.Words.{Word, words, Cut}
 use Rattle.language.specs.Grammar.{csml, mostLevels, wholeProgram, kinds, refuses, Checks}
 use Rattle.language.specs.Trees.{sourceOf}
 
--- "Source 8,192 bytes"
+-- Z1
 abbrev pub mostBytes : ℕ
 mostBytes = 8192
 
@@ -21,7 +21,7 @@ pub data Reading : Type 0 where
   good : Source → Reading
   refused : ℕ → ℕ → Reading
 
--- "The lowest number wins, then the earliest place": 3, then 4 and 5, then the faults of the tree
+-- R1: 3, then 4 and 5, then the faults of the tree
 pub data Reads (s : List ℕ) : Reading → Type 0 where
   long : mostBytes < length s → Reads s (refused 3 0)
   text : {number place : ℕ} → length s ≤ mostBytes → Checks s (refuses number place) → Reads s (refused number place)

@@ -85,7 +85,7 @@ abbrev pub wholeOrPart : Name → Option ℕ → tree.Target Name
 wholeOrPart n none = whole n
 wholeOrPart n (some j) = part n j
 
--- "Binary operators group from the left": each takes what stands before it as its left operand
+-- G7: each takes what stands before it as its left operand
 unfoldable pub makesOperators : (n : ℕ) (ops : List String) → Makes Word Val (Expr Name → Expr Name) (map (λ op. op ▸ Tier (suc n) ▹ Further n ▹ ε) ops)
 makesOperators n [] = tt
 makesOperators n (op ∷ ops) = (λ v left. v .1 .1 .0 (joinedBy operators op (v .0 .place) left (v .1 .0)), makesOperators n ops)

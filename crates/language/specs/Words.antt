@@ -1,4 +1,4 @@
--- The words of a text: document 01, "Words (house)", and refusal 4.
+-- W1 to W7: the words of a text, and fault 4.
 -- Assumes nothing.
 use mathlib.Core.Bool.{Bool, true, false, _&&_, _||_, cond}
 use mathlib.Core.Path.{_≡_}
@@ -19,11 +19,11 @@ unfoldable pub bytes : String → List ℕ
 bytes Text.[] = []
 bytes (Text._∷_ c s) = code c ∷ bytes s
 
--- "blanks (space, tab, LF, CR)"
+-- W1: blanks
 unfoldable pub blank : ℕ → Bool
 blank c = eqb c 32 || (eqb c 9 || (eqb c 10 || eqb c 13))
 
--- a letter; house: one of ASCII
+-- W2: a letter is one of ASCII
 unfoldable pub letter : ℕ → Bool
 letter c = (leb 65 c && leb c 90) || (leb 97 c && leb c 122)
 
@@ -31,15 +31,15 @@ letter c = (leb 65 c && leb c 90) || (leb 97 c && leb c 122)
 unfoldable pub digit : ℕ → Bool
 digit c = leb 48 c && leb c 57
 
--- "underscores"
+-- W2
 abbrev pub underscore : ℕ
 underscore = 95
 
--- "a hyphen"
+-- W2
 abbrev pub hyphen : ℕ
 hyphen = 45
 
--- c goes on in a name before d: "letters, digits, underscores; a hyphen belongs to it when a letter or digit follows" (d is 0 where nothing follows)
+-- W2: c goes on in a name before d (d is 0 where nothing follows)
 unfoldable pub inName : ℕ → ℕ → Bool
 inName c d = letter c || (digit c || (eqb c underscore || (eqb c hyphen && (letter d || digit d))))
 
@@ -53,11 +53,11 @@ inBlanks c d = blank c
 
 -- ---- which words there are
 
--- the signs, a longer one before a shorter one that it begins with: "`||` before `|`, `!=` before `!`, `==` before `=`"; "`.H` and `.L` are one word each"
+-- W5: the signs, a longer one before a shorter one that it begins with
 unfoldable pub signs : List String
 signs = "||" ∷ "|" ∷ "!=" ∷ "!" ∷ "==" ∷ "=" ∷ ":=" ∷ ":" ∷ ".H" ∷ ".L" ∷ ";" ∷ "," ∷ "(" ∷ ")" ∷ "[" ∷ "]" ∷ ">" ∷ "<" ∷ "&" ∷ "+" ∷ "-" ∷ "*" ∷ "/" ∷ "%" ∷ []
 
--- "keywords, `true`, `false` and `int` are never names"; the last line is "Not yet: .. Their keywords are reserved"
+-- W6: never names; the last line is for later use
 unfoldable pub reserved : List String
 reserved =
     "program" ∷ "endprog" ∷ "input" ∷ "output" ∷ "internal" ∷ "integer" ∷ "true" ∷ "false" ∷ "int"
@@ -76,13 +76,13 @@ abbrev pub Among : String → List String → Type 0
 Among s [] = ⊥
 Among s (t ∷ ss) = (s ≡ t) ⊎ Among s ss
 
--- what a word can be, before its size is looked at: "a name is a letter, then .." (a reserved word has that form too), a number is digits, a sign is one of the list
+-- W2, W4, W5: what a word can be, before its size is looked at; a reserved word has the form of a name
 pub data IsWord : List ℕ → Type 0 where
   aName : (c : ℕ) (w : List ℕ) → letter c ≡ true → Run inName w → IsWord (c ∷ w)
   aNumber : (c : ℕ) (w : List ℕ) → digit c ≡ true → Run inNumber w → IsWord (c ∷ w)
   aSign : (s : String) (w : List ℕ) → Among s signs → w ≡ bytes s → IsWord w
 
--- "The longest word is taken": the first n bytes are a word, and no more of them are
+-- W1: the first n bytes are a word, and no more of them are
 pub record Longest (l : List ℕ) (n : ℕ) : Type 0 where
   pub inside : n ≤ length l
   pub word : IsWord (take n l)
@@ -110,15 +110,15 @@ unfoldable pub spelled : Option String → Kind → Kind
 spelled (some s) k = the s
 spelled none k = k
 
--- the kind of a word, by its bytes: a spelling of the lists is that word, "case-sensitive", and anything else a number or a name
+-- W2, W6: the kind of a word, by its bytes: a spelling of the lists is that word, and anything else a number or a name
 unfoldable pub kindOf : List ℕ → Kind
 kindOf w = spelled (firstOf (same w) (signs ++ reserved)) (cond (digit (getD w 0 0)) number name)
 
--- "Names are .. 1 to 16 bytes"
+-- W3
 abbrev pub longestName : ℕ
 longestName = 16
 
--- "a number's value is at most 65,535"
+-- W4
 abbrev pub largestNumber : ℕ
 largestNumber = 65535
 
@@ -127,11 +127,11 @@ unfoldable pub valueFrom : ℕ → List ℕ → ℕ
 valueFrom v [] = v
 valueFrom v (c ∷ w) = valueFrom (v * 10 + (c - 48)) w
 
--- "a number's value"; leading zeros are free
+-- W4: leading zeros are free
 abbrev pub valueOf : List ℕ → ℕ
 valueOf w = valueFrom 0 w
 
--- "name or number too large"
+-- W7: too large
 unfoldable pub tooLarge : Kind → List ℕ → Bool
 tooLarge name w = ltb longestName (length w)
 tooLarge number w = ltb largestNumber (valueOf w)
@@ -145,7 +145,7 @@ pub record Word : Type 0 where
   pub place : ℕ
   pub bytes : List ℕ
 
--- the words in order; or refusal 4's place: "no word starts here, name or number too large | that byte or word"
+-- the words in order; or the place of fault 4 (W7)
 pub data Words : Type 0 where
   words : List Word → Words
   refused : ℕ → Words

@@ -87,7 +87,7 @@ initial-below ds = omega (arith, initial-room ds 0 (outputCount ds), ap (λ (x :
 
 -- ---- "non-input bits 32"
 
-bits-two : (d : Declaration) → bitsOf d ≡ anOutput d + otherBits d
+pub bits-two : (d : Declaration) → bitsOf d ≡ anOutput d + otherBits d
 bits-two (inputs n e) = refl
 bits-two (outputs n e b) = refl
 bits-two (internals n e b) = refl

@@ -44,7 +44,7 @@ module _ (look : Name → Variable) where
     same (switch h cs) n = same-cases cs (suc n)
     same (parallel h bs) n = same-sum bs (suc n)
 
-    same-all : (ss : Stmts Name) (n : ℕ) → activitiesAll (checkedAll ss look n) ≡ activitiesAll ss
+    pub same-all : (ss : Stmts Name) (n : ℕ) → activitiesAll (checkedAll ss look n) ≡ activitiesAll ss
     same-all end n = refl
     same-all (s ⨾ ss) n = ap₂ max (same s n) (same-all ss (n + length (items s)))
 
@@ -76,7 +76,7 @@ mutual
   eight (parallel h bs) e =
       ltb-false mostActivities (activitiesSum bs) (when-none (ltb mostActivities (activitiesSum bs)) (h .place) (none-cons itemSize _ _ e .0))
 
-  eight-all : (ss : Stmts Name) → gather itemSize (itemsAll ss) ≡ [] → activitiesAll ss ≤ mostActivities
+  pub eight-all : (ss : Stmts Name) → gather itemSize (itemsAll ss) ≡ [] → activitiesAll ss ≤ mostActivities
   eight-all end e = omega arith
   eight-all (s ⨾ ss) e = let (p, q) = none-both itemSize (items s) (itemsAll ss) e in max-le (eight s p) (eight-all ss q)
 

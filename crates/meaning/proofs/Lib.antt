@@ -8,7 +8,10 @@ pub mod Tried
 pub mod Apart
 pub mod Word
 pub mod Declared
+pub mod Owned
 pub mod Worst
+pub mod Division
+pub mod Comparing
 pub mod Parallel
 pub mod Loops
 pub mod Switch
@@ -17,7 +20,11 @@ pub mod States
 pub mod Places
 pub mod Faults
 pub mod Sizes
+pub mod Limits
+pub mod AtMost
 pub mod Numbered
+pub mod Placed
 pub mod Fits
 pub mod Eight
-pub mod Trials
+pub mod Samples
+pub mod Unasked

@@ -9,7 +9,7 @@ use Rattle.meaning.specs.Tree.{Head, Stmt, skip, delay, change, assign, 
 use Rattle.meaning.specs.Numbers.{Variable, Reads, holds}
 use Rattle.meaning.specs.Tries.{Tries, noTries, changeTries, assignTries, agreed}
 
--- "for each activity the statement or case test that it starts with next clock, with any delay clocks left, or that its branch has finished"
+-- S1: an activity is nowhere, or begins at the number, with so many clocks left of a delay
 pub data Entry : Type 0 where
   nowhere : Entry
   at : ℕ → ℕ → Entry
@@ -23,7 +23,7 @@ pub data Jump : Type 0 where
   out : Jump
   off : Jump
 
--- "Each statement, run from where it stands, finishes in no time, jumps, or waits with a set of tried bits."
+-- C2: how a statement ends that is run from where it stands
 pub data Outcome : Type 0 where
   finishes : Outcome
   jumps : Jump → Outcome
@@ -31,7 +31,7 @@ pub data Outcome : Type 0 where
 
 -- ---- activities
 
--- "a parallel sums its branches, other statements and lists take the largest part, at least 1"
+-- Z8: how many activities
 unfoldable mutual
   pub activities : {N : Type 0} → Stmt N → ℕ
   activities (skip h) = 1
@@ -109,7 +109,7 @@ unfoldable mutual
   insideSome none es = false
   insideSome (b ∥ bs) es = cond (insideAll b es) true (insideSome bs es)
 
--- "The start, and any place after a wait, is the head of the next statement"
+-- S2: after a wait one stands at the head of the next statement
 abbrev pub standsAt : Head → After
 standsAt h = stands (at (h .number) 0 ∷ [])
 
@@ -117,28 +117,28 @@ abbrev pub first : {N : Type 0} → Stmts N → After
 first end = done
 first (s ⨾ ss) = standsAt (headOf s)
 
--- "the end of a case at the next test or the default's first statement"
+-- S2: behind the list of a case
 abbrev pub firstCase : {N : Type 0} → Cases N → After
 firstCase (default d) = first d
 firstCase (case h e b cs) = standsAt h
 
 -- ---- how outcomes go on
 
--- "After the first statement has finished executing, the second one starts executing immediately": the rest runs now, or begins at its first place when the wait ends
+-- C4: the rest runs now, or begins at its first place when the wait ends
 abbrev pub andThen : Outcome → Outcome → After → Outcome
 andThen finishes next place = next
 andThen (jumps j) next place = jumps j
 andThen (waits t done) next place = waits t place
 andThen (waits t (stands es)) next place = waits t (stands es)
 
--- "`break` the smallest switch or parallel"; `exit` passes through
+-- C7: `break` ends here; `exit` passes through
 abbrev pub caught : Outcome → Outcome
 caught finishes = finishes
 caught (jumps out) = jumps out
 caught (jumps off) = finishes
 caught (waits t a) = waits t a
 
--- "A loop whose body finished in no time since its last start waits one clock and stands at itself"; "the end of a loop's body stands at its loop"; "`exit` leaves the smallest loop"; `break` passes through
+-- C6, C7, S2: a body in no time waits at the loop, the end of a body that waited stands at the loop, `exit` ends here; `break` passes through
 abbrev pub looped : Head → Outcome → Outcome
 looped h finishes = waits noTries (standsAt h)
 looped h (jumps out) = finishes
@@ -146,13 +146,13 @@ looped h (jumps off) = jumps off
 looped h (waits t done) = waits t (standsAt h)
 looped h (waits t (stands es)) = waits t (stands es)
 
--- "A body that finished after some wait restarts at once."
+-- C6: a body that has waited begins again in the same clock
 abbrev pub again : Head → Outcome → Outcome → Outcome
 again h restart finishes = restart
 again h restart (jumps j) = looped h (jumps j)
 again h restart (waits t a) = looped h (waits t a)
 
--- "`delay n` waits n; `delay 0` finishes at once"
+-- C3: a delay
 abbrev pub delayed : Head → ℕ → Outcome
 delayed h zero = finishes
 delayed h (suc zero) = waits noTries done
@@ -176,7 +176,7 @@ jumpOr finishes next = next
 jumpOr (jumps j) next = jumps j
 jumpOr (waits t a) next = next
 
--- "if any branch jumps, the first such branch in the text decides, all tries are dropped, and the jump goes on in the same clock"
+-- C9: the first branch that jumps decides, and no try counts
 unfoldable pub firstJump : List Branch → Outcome → Outcome
 firstJump [] next = next
 firstJump (b ∷ bs) next = jumpOr (b .outcome) (firstJump bs next)
@@ -220,7 +220,7 @@ unfoldable pub entriesOf : List Branch → List Entry
 entriesOf [] = []
 entriesOf (b ∷ bs) = widened (b .wide) (entriesIn (b .outcome)) ++ entriesOf bs
 
--- "If all have finished it has finished. Otherwise it waits"
+-- C9: finished once all are; else it waits
 abbrev pub joined : List Branch → Outcome
 joined bs =
     firstJump bs
@@ -247,7 +247,7 @@ unfoldable mutual
   startAll end r = finishes
   startAll (s ⨾ ss) r = andThen (start s r) (startAll ss r) (first ss)
 
-  -- "each test is made when it is reached, perhaps clocks later; without `break` the default always runs"
+  -- C8: each test in its turn, and the default in any case
   pub startCases : Cases Variable → Reads → Outcome
   startCases (default d) r = startAll d r
   startCases (case h e b cs) r = cond (holds e r) (andThen (startAll b r) (startCases cs r) (firstCase cs)) (startCases cs r)

@@ -8,18 +8,18 @@ use lib.Dec.{eqb}
 use Rattle.meaning.specs.Tree.{Name, Stmts}
 use Rattle.meaning.specs.Numbers.{Variable, input, boolean, integer}
 
--- "the endings `.H` and `.L`": "the ending changes nothing yet"
+-- G3: an ending changes nothing
 pub data Ending : Type 0 where
   high low : Ending
 
--- "Declarations are `input`, `output`, `internal` and `integer`"; an integer's width stands at its own place
+-- G2, G3, G4: what is declared; an integer's width stands at its own place
 pub data Declaration : Type 0 where
   inputs : Name → Ending → Declaration
   outputs : Name → Ending → Bool → Declaration
   internals : Name → Ending → Bool → Declaration
   integers : Name → ℕ → ℕ → ℕ → Declaration
 
--- "`program name;`, then zero or more declarations .., then a statement list"
+-- G1: a program
 pub record Source : Type 0 where
   pub name : List ℕ
   pub declared : List Declaration
@@ -31,7 +31,7 @@ nameOf (outputs n e b) = n
 nameOf (internals n e b) = n
 nameOf (integers n p w v) = n
 
--- "Names are case-sensitive": the same bytes
+-- W2: the same name has the same bytes
 unfoldable pub sameBytes : List ℕ → List ℕ → Bool
 sameBytes [] [] = true
 sameBytes [] (y ∷ t) = false
@@ -79,7 +79,7 @@ lookFrom (d ∷ ds) x i o b =
     cond (sameBytes (nameOf d .bytes) x) (some (standsFor d i o b))
     (lookFrom ds x (one d + i) (anOutput d + o) (otherBits d + b))
 
--- "Inputs are numbered by bits, first declared lowest"; of the value word the outputs take the low bits in declared order, and the others follow
+-- S5: inputs by number, the first declared lowest; of the value word the outputs take the low bits in declared order, and the others follow
 unfoldable pub lookUp : List Declaration → List ℕ → Option Variable
 lookUp ds x = lookFrom ds x 0 0 (outputCount ds)
 
@@ -89,7 +89,7 @@ abbrev pub asBit : Bool → ℕ
 asBit true = 1
 asBit false = 0
 
--- "initialisers keep the low bits"; without one, false or 0
+-- V3: the low bits; without an initial value false or 0
 abbrev pub valueAt : Declaration → ℕ → ℕ → ℕ
 valueAt (inputs n e) o b = 0
 valueAt (outputs n e v) o b = asBit v * 2 ^ o

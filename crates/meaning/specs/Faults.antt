@@ -1,4 +1,4 @@
--- Which fault of a tree is told: "The lowest number wins, then the earliest place."
+-- R1: which fault of a tree is told.
 -- Assumes nothing.
 use Prim.Native.Nat.{ℕ, min}
 use mathlib.Core.List.{List, [], _∷_}

@@ -8,7 +8,7 @@ pub data Item : Type 0 where
   statement : Stmt Name → Item
   test : Head → Expr Name → Item
 
--- "Statements are counted in text order, a compound before its parts"
+-- Z5: a compound comes before what it holds
 unfoldable mutual
   pub items : Stmt Name → List Item
   items (skip h) = statement (skip h) ∷ []
@@ -35,7 +35,7 @@ unfoldable mutual
   itemsEach none = []
   itemsEach (b ∥ bs) = itemsAll b ++ itemsEach bs
 
--- all expressions inside an expression, in text order: "left operand, operator, right operand"
+-- Z6: all expressions inside an expression, in text order: left operand, operator, right operand
 unfoldable pub within : Expr Name → List (Expr Name)
 within (literal p n) = literal p n ∷ []
 within (truth p b) = truth p b ∷ []
@@ -65,7 +65,7 @@ abbrev pub own : Item → List (Expr Name)
 own (statement s) = ownOf s
 own (test h e) = within e
 
--- every part of every expression in text order: "literals, names, operators, `int`; not a bit's number, nor a changed variable"
+-- Z6: every part of every expression in text order
 unfoldable pub partsOf : List Item → List (Expr Name)
 partsOf [] = []
 partsOf (i ∷ is) = own i ++ partsOf is

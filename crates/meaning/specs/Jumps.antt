@@ -1,4 +1,4 @@
--- Refusal 8: "`exit` or `break` with nothing to leave | the word".
+-- N9: a jump with nothing to leave, fault 8 at its word.
 -- Assumes nothing.
 use Prim.Native.Nat.{ℕ}
 use mathlib.Core.Bool.{Bool, true, false, not as opposite}

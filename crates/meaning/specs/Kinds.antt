@@ -1,4 +1,4 @@
--- Refusal 7: "wrong kind, an input changed, bit outside the width".
+-- N3 to N8: wrong kinds, fault 7.
 -- Assumes nothing.
 use Prim.Native.Nat.{ℕ}
 use mathlib.Core.Bool.{Bool, true, false, cond, not as opposite}
@@ -36,7 +36,7 @@ kindOfVariable (some (input i)) = truths
 kindOfVariable (some (boolean j)) = truths
 kindOfVariable (some (integer low width)) = wholes
 
--- "The operator alone settles its result's kind"
+-- N3: the kind of an expression, by its outermost operator alone
 abbrev pub kindOf : List Declaration → Expr Name → Kind
 kindOf ds (literal p n) = wholes
 kindOf ds (truth p b) = truths
@@ -55,7 +55,7 @@ hasBit (some (input i)) j = false
 hasBit (some (boolean b)) j = false
 hasBit (some (integer low width)) j = ltb j width
 
--- "`==` and `!=` take two booleans or two integers", the others two integers
+-- N4: what a comparison wants
 abbrev pub comparable : Comparison → Kind → Kind → Bool
 comparable equal a b = sameKind a b
 comparable unequal a b = sameKind a b
@@ -87,7 +87,7 @@ assignable (some (input i)) = false
 assignable (some (boolean j)) = false
 assignable (some (integer low width)) = true
 
--- "`raise`/`lower`/`invert` (not for an index)", else "the .. indexed name"
+-- N6, N7: at the word for a whole name, at the indexed name for a bit
 abbrev pub targetKind : List Declaration → Head → Target Name → List ℕ
 targetKind ds h (whole v) = when (opposite (changeable (lookUp ds (v .bytes)))) (h .place)
 targetKind ds h (part v j) = when (opposite (hasBit (lookUp ds (v .bytes)) j)) (v .place)

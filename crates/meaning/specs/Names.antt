@@ -1,4 +1,4 @@
--- Refusal 6: "unknown name, or declared again | the name".
+-- N2: unknown names and names declared again, fault 6 at the name.
 -- Assumes nothing.
 use Prim.Native.Nat.{ℕ}
 use mathlib.Core.Bool.{Bool, true, false, cond}
@@ -26,7 +26,7 @@ unfoldable pub among : List ℕ → List Declaration → Bool
 among x [] = false
 among x (d ∷ ds) = cond (sameBytes (nameOf d .bytes) x) true (among x ds)
 
--- "declared again": a name that a declaration before it has; "The program's name clashes with nothing."
+-- N1, N2: a name that a declaration before it has; the program's own name is not looked at
 unfoldable pub againFrom : List Declaration → List Declaration → List ℕ
 againFrom earlier [] = []
 againFrom earlier (d ∷ ds) = when (among (nameOf d .bytes) earlier) (nameOf d .place) ++ againFrom (d ∷ earlier) ds

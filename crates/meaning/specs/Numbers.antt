@@ -13,7 +13,7 @@ pub data Variable : Type 0 where
   boolean : ℕ → Variable
   integer : ℕ → ℕ → Variable
 
--- "All reads in a clock see the values at its start and the clock's inputs."
+-- C1: what a clock reads: the values at its start, and its inputs
 pub record Reads : Type 0 where
   pub word : ℕ
   pub inputs : ℕ
@@ -25,19 +25,19 @@ isOne n = eqb n 1
 abbrev pub bitOf : ℕ → ℕ → Bool
 bitOf n j = isOne (n / 2 ^ j % 2)
 
--- "`/` goes toward zero": "a/0 is 0"
+-- V2: toward zero; by 0 it is 0
 abbrev pub over : ℤ → ℤ → ℤ
 over a (pos zero) = pos 0
 over a (pos (suc n)) = quotZ a (pos (suc n))
 over a (negsuc n) = quotZ a (negsuc n)
 
--- "`%` takes the dividend's sign": "a%0 is a"
+-- V2: the sign of the left operand; by 0 it is that operand
 abbrev pub rest : ℤ → ℤ → ℤ
 rest a (pos zero) = a
 rest a (pos (suc n)) = remZ a (pos (suc n))
 rest a (negsuc n) = remZ a (negsuc n)
 
--- "the low bits of the two's complement form": w of them; that of -(n + 1) is n with every bit turned
+-- V3: w low bits in two's complement; those of -(n + 1) are n with every bit turned
 abbrev pub lowBits : ℕ → ℤ → ℕ
 lowBits w (pos n) = n % 2 ^ w
 lowBits w (negsuc n) = 2 ^ w - 1 - n % 2 ^ w
@@ -54,7 +54,7 @@ abbrev pub boolOf : Value → Bool
 boolOf (whole z) = false
 boolOf (bool b) = b
 
--- "An integer expression has its exact whole value"
+-- V1: exact
 abbrev pub compute : Arithmetic → ℤ → ℤ → ℤ
 compute plus a b = a +ℤ b
 compute minus a b = a -ℤ b
@@ -87,7 +87,7 @@ abbrev pub combine : Logic → Bool → Bool → Bool
 combine and a b = cond a b false
 combine or a b = cond a true b
 
--- `int`: "returns 1 if the expression is true and 0 if it is false"
+-- V4: `int`
 abbrev pub asNumber : Bool → ℤ
 asNumber true = pos 1
 asNumber false = pos 0
@@ -97,7 +97,7 @@ read (input i) r = bool (bitOf (r .inputs) i)
 read (boolean j) r = bool (bitOf (r .word) j)
 read (integer low width) r = whole (pos (r .word / 2 ^ low % 2 ^ width))
 
--- "x[0] is defined to be the least significant bit"
+-- V4: bit 0 is the lowest
 abbrev pub readBit : Variable → ℕ → Reads → Value
 readBit (input i) j r = bool false
 readBit (boolean b) j r = bool false

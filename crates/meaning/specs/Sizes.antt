@@ -1,4 +1,4 @@
--- Refusal 9: "another size passed, or width 0 | the first name (for bits too), number, statement or part too many; the `parallel`".
+-- Z2 to Z8: sizes passed, fault 9 at the first too many.
 -- Assumes nothing.
 use Prim.Native.Nat.{ℕ, _+_}
 use mathlib.Core.Bool.{false, cond, not as opposite}
@@ -13,7 +13,7 @@ use Rattle.meaning.specs.Declared.{Declaration, inputs, outputs, interna
 use Rattle.meaning.specs.Items.{Item, statement, test, itemsAll, partsOf, placeOf}
 use Rattle.meaning.specs.Names.{gather, when}
 
--- inputs and outputs as in a table file; "non-input bits 32; width 1 to 16; statements 255; expression parts .. 1,024; delay 255"
+-- Z3 to Z7; inputs and outputs (Z2) as in a table file
 abbrev pub mostBits : ℕ
 mostBits = 32
 
@@ -41,7 +41,7 @@ outputPlaces (outputs n e b) = n .place ∷ []
 outputPlaces (internals n e b) = []
 outputPlaces (integers n p w v) = []
 
--- "any written width counts towards the bits"
+-- Z3: an integer counts by its written width
 abbrev pub bitsOf : Declaration → ℕ
 bitsOf (inputs n e) = 0
 bitsOf (outputs n e b) = 1
@@ -54,7 +54,7 @@ bitsFrom before [] = []
 bitsFrom before (d ∷ ds) =
     when (ltb mostBits (before + bitsOf d)) (nameOf d .place) ++ bitsFrom (before + bitsOf d) ds
 
--- "width 1 to 16"
+-- Z4: widths
 abbrev pub widthFault : Declaration → List ℕ
 widthFault (inputs n e) = []
 widthFault (outputs n e b) = []
@@ -65,7 +65,7 @@ abbrev pub statementPlace : Item → List ℕ
 statementPlace (statement s) = headOf s .place ∷ []
 statementPlace (test h e) = []
 
--- "delay 255"; "Every `parallel` whose sum is above 8 is a fault"
+-- Z7: a delay, at its number; Z8: every parallel with too many activities
 abbrev pub stmtSize : Stmt Name → List ℕ
 stmtSize (skip h) = []
 stmtSize (delay h p n) = when (ltb mostDelay n) p

@@ -7,16 +7,16 @@ use Rattle.meaning.specs.Numbers.{Variable}
 use Rattle.meaning.specs.Tries.{taken}
 use Rattle.meaning.specs.Clock.{Entry, After, done, stands, Outcome, finishes, jumps, waits, widened, first, resumeAll}
 
--- "activities 8"
+-- Z8
 abbrev pub mostActivities : ℕ
 mostActivities = 8
 
--- "A state holds eight activity places and one value word"
+-- S1: eight places, and one word of all bits that are no input
 pub record State : Type 0 where
   pub entries : List Entry
   pub word : ℕ
 
--- a checked program: its inputs and outputs by number, "every non-input bit" at the start, and its statements
+-- a checked program: its inputs and outputs by number, its bits at the start, and its statements
 pub record Program : Type 0 where
   pub inputs : ℕ
   pub outputs : ℕ
@@ -27,17 +27,17 @@ abbrev pub standing : After → List Entry
 standing done = widened mostActivities []
 standing (stands es) = widened mostActivities es
 
--- "The start is the first statement with the initial values."
+-- S4: the start
 unfoldable pub startState : Program → State
 startState p = record { entries = standing (first (p .body)); word = p .initial }
 
--- "After the last statement the machine stands at the end for ever": an end in no time changes nothing
+-- C10: behind the last statement nothing changes any more, nor in the clock of an end in no time
 abbrev pub settled : Outcome → ℕ → State
 settled finishes word = record { entries = standing done; word = word }
 settled (jumps j) word = record { entries = standing done; word = word }
 settled (waits t a) word = record { entries = standing a; word = taken t word }
 
--- one clock with the inputs of that number: "Inputs are numbered by bits, first declared lowest."
+-- S5: one clock with the inputs of that number
 unfoldable pub stepState : Program → State → ℕ → State
 stepState p s input = settled (resumeAll (p .body) (s .entries) (record { word = s .word; inputs = input })) (s .word)
 

@@ -10,15 +10,15 @@ pub record Name : Type 0 where
   pub bytes : List ℕ
   pub place : ℕ
 
--- "`+ -`; `* / %`"
+-- G7
 pub data Arithmetic : Type 0 where
   plus minus times quotient remainder : Arithmetic
 
--- "`== != > <`"
+-- G7
 pub data Comparison : Type 0 where
   equal unequal greater less : Comparison
 
--- "`&`; `|`"
+-- G7
 pub data Logic : Type 0 where
   and or : Logic
 
@@ -34,7 +34,7 @@ pub data Expr (N : Type 0) : Type 0 where
   comparison : Comparison → ℕ → Expr N → Expr N → Expr N
   logic : Logic → ℕ → Expr N → Expr N → Expr N
 
--- "`raise`, `lower`, `invert` of a boolean or an integer's bit"
+-- G6: what changes a boolean or a bit
 pub data Change : Type 0 where
   raise lower invert : Change
 
@@ -42,7 +42,7 @@ pub data Target (N : Type 0) : Type 0 where
   whole : N → Target N
   part : N → ℕ → Target N
 
--- "Each statement keeps its place": the offset of its first word, and its number among all statements and case tests in text order
+-- the place of a statement is that of its first word, and its number the one among all statements and case tests in text order
 pub record Head : Type 0 where
   pub place : ℕ
   pub number : ℕ
@@ -63,12 +63,12 @@ mutual
     switch : Head → Cases N → Stmt N
     parallel : Head → Branches N → Stmt N
 
-  -- "A statement list is one or more statements"; an `if` without `else` has none there
+  -- G5: a list; an `if` without `else` has an empty one there
   pub data Stmts (N : Type 0) : Type 0 where
     end : Stmts N
     _⨾_ : Stmt N → Stmts N → Stmts N
 
-  -- "one or more cases and a last, required `default`, a list each"
+  -- G6: cases, and the default last
   pub data Cases (N : Type 0) : Type 0 where
     default : Stmts N → Cases N
     case : Head → Expr N → Stmts N → Cases N → Cases N

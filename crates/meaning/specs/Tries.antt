@@ -7,7 +7,7 @@ use lib.Bits.{bitAnd, bitOr, bitXor}
 use Rattle.meaning.specs.Tree.{Change, raise, lower, invert, Target, whole, part, Expr}
 use Rattle.meaning.specs.Numbers.{Variable, input, boolean, integer, Reads, bitOf, lowBits, wholeOf, value}
 
--- "a set of tried bits": those tried with one, and those tried with zero
+-- C2: the bits tried with one, and those tried with zero
 pub record Tries : Type 0 where
   pub ones : ℕ
   pub zeros : ℕ
@@ -19,12 +19,12 @@ noTries = record { ones = 0; zeros = 0 }
 abbrev pub without : ℕ → ℕ → ℕ
 without a b = bitXor a (bitAnd a b)
 
--- bit j with a value: "Setting a bit to the value it has is a try."
+-- C2: bit j with a value, also with the one it has
 abbrev pub tryBit : ℕ → Bool → Tries
 tryBit j true = record { ones = 2 ^ j; zeros = 0 }
 tryBit j false = record { ones = 0; zeros = 2 ^ j }
 
--- "raise will assert .., lower will deassert it, and invert will force a change of value"
+-- C3: what is tried
 abbrev pub changed : Change → Bool → Bool
 changed raise was = true
 changed lower was = false
@@ -41,11 +41,11 @@ bitAt (part (integer low width) j) = low + j
 abbrev pub changeTries : Change → Target Variable → Reads → Tries
 changeTries c t r = tryBit (bitAt t) (changed c (bitOf (r .word) (bitAt t)))
 
--- "`:=` tries every bit": those of v, from `low` on
+-- C3: every bit of an integer: those of v, from `low` on
 abbrev pub tryBits : ℕ → ℕ → ℕ → Tries
 tryBits low width v = record { ones = v * 2 ^ low; zeros = (2 ^ width - 1 - v) * 2 ^ low }
 
--- "`:=` and initialisers keep the low bits of the two's complement form"
+-- V3: the low bits of the value
 abbrev pub assignTries : Variable → Expr Variable → Reads → Tries
 assignTries (input i) e r = noTries
 assignTries (boolean j) e r = noTries
@@ -59,7 +59,7 @@ unfoldable pub allZeros : List Tries → ℕ
 allZeros [] = 0
 allZeros (t ∷ ts) = bitOr (t .zeros) (allZeros ts)
 
--- "a bit tried by one branch, or by several with one value, takes it; on disagreement it is untried"
+-- C9: tried with one value it is tried with it, with both it is not
 abbrev pub agreed : List Tries → Tries
 agreed ts = record { ones = without (allOnes ts) (allZeros ts); zeros = without (allZeros ts) (allOnes ts) }
 

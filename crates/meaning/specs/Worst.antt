@@ -1,4 +1,4 @@
--- Refusal 10: "worst size passed | operator".
+-- V5: worst sizes passed, fault 10 at the operator.
 -- Assumes nothing.
 use Prim.Native.Nat.{ℕ, _+_, _-_, _*_, _^_}
 use mathlib.Core.List.{List, []}
@@ -10,18 +10,18 @@ use Rattle.meaning.specs.Declared.{Declaration, Source, lookUp}
 use Rattle.meaning.specs.Items.{itemsAll, partsOf}
 use Rattle.meaning.specs.Names.{gather, when}
 
--- "A size above 2,147,483,647 anywhere is refused."
+-- V5: the limit
 abbrev pub mostSize : ℕ
 mostSize = 2147483647
 
--- "a w-bit variable 2^w - 1"
+-- V5: of a name
 abbrev pub variableWorst : Option Variable → ℕ
 variableWorst none = 0
 variableWorst (some (input i)) = 0
 variableWorst (some (boolean j)) = 0
 variableWorst (some (integer low width)) = 2 ^ width - 1
 
--- "a sum or difference the two sizes added, a product their product, `/` and `%` the left size"
+-- V5: of an operator
 abbrev pub combined : Arithmetic → ℕ → ℕ → ℕ
 combined plus a b = a + b
 combined minus a b = a + b
@@ -29,7 +29,7 @@ combined times a b = a * b
 combined quotient a b = a
 combined remainder a b = a
 
--- "Worst size: a literal its value, a w-bit variable 2^w - 1, `int` 1"; a boolean has none
+-- V5: of an expression; a boolean has none
 unfoldable pub worst : (Name → Option Variable) → Expr Name → ℕ
 worst look (literal p n) = n
 worst look (truth p b) = 0

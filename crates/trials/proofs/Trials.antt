@@ -1,35 +1,53 @@
--- The trials of document 01, one table under one claim: each text is cut, read, checked and run by computation, through every definition.
+-- The trials of the document, each from its text through every definition. Those marked P are one table under one claim; the others, and the slips, are a second.
 -- Assumes nothing.
-use mathlib.Core.Path.{_≡_, refl}
-use mathlib.Core.List.{List, [], _∷_}
-use Prim.Native.Nat.{ℕ}
+use mathlib.Core.Path.{_≡_, refl, ap}
+use mathlib.Core.List.{List, [], _∷_, _++_}
+use Prim.Native.Nat.{ℕ, _-_}
 use Prim.Native.String.{String}
-use lib.ListN.{replicate}
-use Rattle.file_law.specs.Answer.{Answer, gives, refuses}
-use Rattle.file_law.specs.Table.{mostStates, Table}
-use Rattle.file_law.specs.File.{words, rowBytes, rowsBytes, streamOf}
+use lib.ListN.{take, replicate}
+use Rattle.crc_law.specs.Crc.{ones, crcOf}
+use Rattle.crc_law.proofs.Quick.{same-register}
+use Rattle.file_law.specs.Answer.{gives}
+use Rattle.file_law.specs.Bytes.{low4}
+use Rattle.file_law.specs.Table.{Table}
+use Rattle.file_law.specs.File.{words, rowBytes, rowsBytes, streamOf, pieceOf, bodyOf, blockOf, blocks, fileOf}
 use Rattle.meaning.specs.Declared.{Source}
 use Rattle.language.specs.Words.{bytes}
+use Rattle.language.specs.Promise.{Lent, allZero, refusal}
 use Rattle.language.specs.Listings.{Prints}
 use Rattle.language.proofs.Listing.{listing-right}
 use Rattle.language.proofs.Computing.{yieldIn, Lists, lists}
+use Rattle.trials.proofs.Through.{Ends, Files, ends, files}
 
-abbrev streamed : Answer (Source × Table) → Answer (List ℕ)
-streamed (gives x) = gives (streamOf (x .1))
-streamed (refuses number place) = refuses number place
+abbrev blinkText : String
+blinkText = "program blink; input GO; output LAMP; loop if GO then invert(LAMP) endif endloop endprog"
 
-abbrev streamFrom : String → Answer (List ℕ)
-streamFrom source = streamed (yieldIn mostStates source)
+abbrev skipsText : String
+skipsText = "program p; skip; skip endprog"
 
 -- a state in which L is low, and then one in which it is raised
 abbrev raised : String
 raised = "machine p\ninputs -\noutputs L\nstates 2\n0 0 1\n1 1 1\n"
 
+-- ---- two files, whole: number, total, stream, filling and check
+
+abbrev blinkStream : List ℕ
+blinkStream = 1 ∷ 1 ∷ 2 ∷ 0 ∷ 0 ∷ 0 ∷ 0 ∷ 0 ∷ 1 ∷ 0 ∷ 1 ∷ 0 ∷ 1 ∷ 0 ∷ 0 ∷ 0 ∷ []
+
+abbrev skipsStream : List ℕ
+skipsStream = 0 ∷ 0 ∷ 3 ∷ 0 ∷ 0 ∷ 0 ∷ 1 ∷ 0 ∷ 0 ∷ 0 ∷ 2 ∷ 0 ∷ 0 ∷ 0 ∷ 2 ∷ 0 ∷ []
+
+abbrev blinkFile : List ℕ
+blinkFile = 0 ∷ 0 ∷ 1 ∷ 0 ∷ (blinkStream ++ (replicate 488 0 ++ (0x0C ∷ 0x43 ∷ 0x25 ∷ 0xFF ∷ [])))
+
+abbrev skipsFile : List ℕ
+skipsFile = 0 ∷ 0 ∷ 1 ∷ 0 ∷ (skipsStream ++ (replicate 488 0 ++ (0x35 ∷ 0xC1 ∷ 0x79 ∷ 0x66 ∷ [])))
+
+-- "Trials at the edges", those marked P
 pub record Trials : Type 0 where
   -- "Blink, complete"
-  pub blink : Lists 256 "program blink; input GO; output LAMP; loop if GO then invert(LAMP) endif endloop endprog" "machine blink\ninputs GO\noutputs LAMP\nstates 2\n0 0 0 1\n1 1 1 0\n"
-  -- "Stream: 01 01 02 00, 00 00 00 00 01 00, 01 00 01 00 00 00."
-  pub blink-stream : streamFrom "program blink; input GO; output LAMP; loop if GO then invert(LAMP) endif endloop endprog" ≡ gives (1 ∷ 1 ∷ 2 ∷ 0 ∷ 0 ∷ 0 ∷ 0 ∷ 0 ∷ 1 ∷ 0 ∷ 1 ∷ 0 ∷ 1 ∷ 0 ∷ 0 ∷ 0 ∷ [])
+  pub blink : Lists 256 blinkText "machine blink\ninputs GO\noutputs LAMP\nstates 2\n0 0 0 1\n1 1 1 0\n"
+  pub blink-file : Files blinkText 256 2 blinkFile
   -- "`integer Y[2] = 7` starts at 3"
   pub starts : Lists 256 "program p; output L; integer Y[2] = 7; if Y == 3 then raise(L) endif endprog" raised
   -- "x = 3, width 3, `x := x - 5` gives 6"
@@ -49,11 +67,14 @@ pub record Trials : Type 0 where
   pub exit-first : Lists 256 "program p; output A, B; loop parallel exit || break endparallel; raise(A); exit endloop; raise(B) endprog" "machine p\ninputs -\noutputs A B\nstates 2\n0 0 0 1\n1 0 1 1\n"
   pub break-first : Lists 256 "program p; output A, B; loop parallel break || exit endparallel; raise(A); exit endloop; raise(B) endprog" "machine p\ninputs -\noutputs A B\nstates 3\n0 0 0 1\n1 1 0 2\n2 1 1 2\n"
   -- "`skip; skip`: 3 states; room 2 gives 11, room 3 a file"
-  pub two-skips : Lists 256 "program p; skip; skip endprog" "machine p\ninputs -\noutputs -\nstates 3\n0 - 1\n1 - 2\n2 - 2\n"
-  pub no-room : Lists 2 "program p; skip; skip endprog" "refused 11 at 0\n"
-  pub room : Lists 3 "program p; skip; skip endprog" "machine p\ninputs -\noutputs -\nstates 3\n0 - 1\n1 - 2\n2 - 2\n"
+  pub two-skips : Lists 256 skipsText "machine p\ninputs -\noutputs -\nstates 3\n0 - 1\n1 - 2\n2 - 2\n"
+  pub no-room : Ends skipsText 2 (λ l. refusal l (allZero (l .work)) 11 0)
+  pub room : Files skipsText 3 3 skipsFile
   -- "`loop skip endloop`: 1 state"
   pub still : Lists 256 "program p; loop skip endloop endprog" "machine p\ninputs -\noutputs -\nstates 1\n0 - 0\n"
+
+-- the others, which may also be run, and the slips
+pub record Others : Type 0 where
   -- "`delay 3`: 4 states; `delay 0`: 2"
   pub delay-three : Lists 256 "program p; delay 3 endprog" "machine p\ninputs -\noutputs -\nstates 4\n0 - 1\n1 - 2\n2 - 3\n3 - 3\n"
   pub delay-none : Lists 256 "program p; delay 0 endprog" "machine p\ninputs -\noutputs -\nstates 2\n0 - 1\n1 - 1\n"
@@ -75,12 +96,50 @@ pub record Trials : Type 0 where
   pub long : Prints (replicate 8193 95) (bytes "refused 3 at 0\n")
   pub not-long : Prints (replicate 8192 95) (bytes "refused 4 at 0\n")
 
+-- ---- the tables and the checks of the two files
+
+abbrev blinkTable : Table
+blinkTable = record { inputs = 1; outputs = 1; rows = record { outputs = 0; nexts = 0 ∷ 1 ∷ [] } ∷ record { outputs = 1; nexts = 1 ∷ 0 ∷ [] } ∷ [] }
+
+abbrev skipsTable : Table
+skipsTable = record { inputs = 0; outputs = 0; rows = record { outputs = 0; nexts = 1 ∷ [] } ∷ record { outputs = 0; nexts = 2 ∷ [] } ∷ record { outputs = 0; nexts = 2 ∷ [] } ∷ [] }
+
+blink-check : crcOf (take 508 blinkFile) ≡ 0xFF25430C
+unfolding crcOf
+blink-check = ap (λ (x : ℕ). ones - x) (same-register ones (take 508 blinkFile))
+
+skips-check : crcOf (take 508 skipsFile) ≡ 0x6679C135
+unfolding crcOf
+skips-check = ap (λ (x : ℕ). ones - x) (same-register ones (take 508 skipsFile))
+
+blink-bytes : fileOf (streamOf blinkTable) ≡ blinkFile
+unfolding words rowBytes rowsBytes streamOf pieceOf bodyOf blockOf blocks fileOf
+blink-bytes = ap (λ (x : ℕ). take 508 blinkFile ++ low4 x) blink-check
+
+skips-bytes : fileOf (streamOf skipsTable) ≡ skipsFile
+unfolding words rowBytes rowsBytes streamOf pieceOf bodyOf blockOf blocks fileOf
+skips-bytes = ap (λ (x : ℕ). take 508 skipsFile ++ low4 x) skips-check
+
+blink-yields : (src : Source) × (yieldIn 256 blinkText ≡ gives (src, blinkTable))
+unfolding yieldIn
+blink-yields = (_, refl)
+
+skips-yields : (src : Source) × (yieldIn 3 skipsText ≡ gives (src, skipsTable))
+unfolding yieldIn
+skips-yields = (_, refl)
+
+blink-filed : Files blinkText 256 2 blinkFile
+blink-filed = files blinkText 256 2 blinkFile (blink-yields .0) blinkTable (blink-yields .1) blink-bytes refl refl
+
+skips-filed : Files skipsText 3 3 skipsFile
+skips-filed = files skipsText 3 3 skipsFile (skips-yields .0) skipsTable (skips-yields .1) skips-bytes refl refl
+
 pub trials : Trials
-unfolding yieldIn words rowBytes rowsBytes streamOf
+unfolding yieldIn
 trials =
     record {
       blink = lists refl;
-      blink-stream = refl;
+      blink-file = blink-filed;
       starts = lists refl;
       assigned = lists refl;
       quotient = lists refl;
@@ -93,9 +152,15 @@ trials =
       exit-first = lists refl;
       break-first = lists refl;
       two-skips = lists refl;
-      no-room = lists refl;
-      room = lists refl;
+      no-room = ends refl;
+      room = skips-filed;
       still = lists refl;
+    }
+
+pub others : Others
+unfolding yieldIn
+others =
+    record {
       delay-three = lists refl;
       delay-none = lists refl;
       passes = lists refl;

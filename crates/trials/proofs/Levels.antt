@@ -1,4 +1,4 @@
--- Levels, up to the last that may open and one more, by computation: a mark that is missing, or another number, is refused here.
+-- Levels, up to the last that may open and one more, by computation.
 -- Assumes nothing.
 use mathlib.Core.List.{List, [], _++_}
 use Prim.Native.Nat.{ℕ, zero, suc}

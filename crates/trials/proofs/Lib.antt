@@ -1,0 +1,4 @@
+pub mod Edges
+pub mod Levels
+pub mod Through
+pub mod Trials

@@ -1,0 +1,1 @@
+// The trials of the document, computed from the definitions. No code.
