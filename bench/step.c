@@ -1,6 +1,8 @@
 /*
  * What a step and an opening cost, each against plain C without checks, in one run.
- * Every step waits for the one before: its state is that one's answer. Medians of rounds taken in turn.
+ * Every step waits for the one before: its state is that one's answer.
+ * Rounds are short, so that most run undisturbed on a loaded machine too, and the works take turns;
+ * of each work's many rounds the third lowest counts.
  */
 #define _POSIX_C_SOURCE 199309L
 #include <stdio.h>
@@ -12,9 +14,10 @@
 #include "plain.h"
 #include "windnadel.h"
 
-#define ROUNDS 31
-#define STEPS 200000
-#define OPENED_BYTES 4000000
+#define ROUNDS 3001
+#define LOWEST 2
+#define STEPS 2000
+#define OPENED_BYTES 16384
 
 static struct table t;
 static uint8_t file[FILE_ROOM];
@@ -83,17 +86,17 @@ static int by_size(const void *a, const void *b)
     return (x > y) - (x < y);
 }
 
-/* The median of each work's rounds; the works take turns, so that all meet the same machine. */
-static void medians(work *const *works, size_t count, double *median)
+/* The third lowest of each work's rounds; the works take turns, so that all meet the same machine. */
+static void thirds(work *const *works, size_t count, double *third)
 {
-    static double rounds[4][ROUNDS];
+    static double rounds[3][ROUNDS];
     uint32_t wanted = works[0]();
     for (size_t round = 0; round < ROUNDS; round++)
         for (size_t at = 0; at < count; at++)
             rounds[at][round] = timed(works[at], wanted);
     for (size_t at = 0; at < count; at++) {
         qsort(rounds[at], ROUNDS, sizeof rounds[at][0], by_size);
-        median[at] = rounds[at][ROUNDS / 2];
+        third[at] = rounds[at][LOWEST];
     }
 }
 
@@ -103,7 +106,7 @@ static void step_line(const char *name)
     double m[3];
     for (size_t at = 0; at < STEPS; at++)
         inputs[at] = random_below((uint32_t)1 << t.inputs);
-    medians(works, 3, m);
+    thirds(works, 3, m);
     printf("step %-28s %6.2f ns; flat table %6.2f ns, ratio %5.2f; file's bytes %6.2f ns, ratio %5.2f\n",
            name, m[0] / STEPS, m[1] / STEPS, m[0] / m[1], m[2] / STEPS, m[0] / m[2]);
 }
@@ -113,7 +116,7 @@ static void open_line(const char *name)
     static work *const works[] = {library_opens, plain_opens};
     double m[2];
     double bytes = (double)((OPENED_BYTES + length - 1) / length * length);
-    medians(works, 2, m);
+    thirds(works, 2, m);
     printf("open %-28s %6.3f ns a byte; table-driven check alone %6.3f ns a byte, ratio %5.2f\n",
            name, m[0] / bytes, m[1] / bytes, m[0] / m[1]);
 }

@@ -16,6 +16,7 @@ mod stream;
 
 pub use sizes::pow2;
 pub use stream::next_at;
+pub use stream::next_low;
 pub use stream::outputs_at;
 
 // The sizes that a file states, or a refusal with its number and place.

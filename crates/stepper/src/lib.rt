@@ -39,7 +39,8 @@ fn stand_in(file: &[u8], k: u32, o: u32, n: u32, state: u32) -> Stands
     Stands::At { state, outputs }
 }
 
-// The step of a file that has the length which its sizes call for.
+// The step of a file that has the length which its sizes call for. States are below 256, so the low byte names the next one,
+// and the high byte is read last, for speed alone: what is read after a test keeps the test a branch, for which no next step waits.
 fn move_in(file: &[u8], k: u32, o: u32, n: u32, state: u32, input: u32) -> Stands
     requires { ⌜ Sized (now file) k o n ⌝ }
     ensures { λ r. ⌜ meaning r ≡ moveAnswer (streamIn (now (file .entry))) k o n state input ⌝ }
@@ -50,11 +51,22 @@ fn move_in(file: &[u8], k: u32, o: u32, n: u32, state: u32, input: u32) -> Stand
     if reader::pow2(k) <= input {
         return refused(NOT_IN_TABLE);
     }
-    let next = reader::next_at(file, k, state, input);
+    let next = reader::next_low(file, k, state, input);
     if n <= next {
         return refused(UNSOUND);
     }
-    stand_in(file, k, o, n, next)
+    let stands = stand_in(file, k, o, n, next);
+    let Stands::At {
+        state: _,
+        outputs: _,
+    } = stands
+    else {
+        return refused(UNSOUND);
+    };
+    if reader::next_at(file, k, state, input) != next {
+        return refused(UNSOUND);
+    }
+    stands
 }
 
 // The look at one state of such a file.

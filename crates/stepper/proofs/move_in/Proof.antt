@@ -3,11 +3,11 @@
 use mathlib.Core.Path.{sym, ap, _∙_}
 use Prim.Native.Nat.{_^_, _≤_, _<_}
 use native.Mathlib.Omega.{arith}
-use Rattle.file_law.specs.Reading.{streamIn, nextAt}
+use Rattle.file_law.specs.Reading.{streamIn}
 use Rattle.file_law.proofs.Tests.{next-inside}
-use Rattle.file_law.specs.Stepping.{standAnswer}
-use Rattle.file_law.proofs.Steps.{move-no-state, move-no-input, move-beyond, move-on}
+use Rattle.file_law.proofs.Steps.{move-no-state, move-no-input}
 use Rattle.stepper.specs.Meaning.{meaning}
+use Rattle.stepper.proofs.Low.{Low, on, beyond, high, spare}
 use borrow.Author.Needs.{needs}
 use Rattle.stepper.proofs.move_in.Statement.{statement}
 use Rattle.stepper.proofs.move_in.Tie as tie
@@ -15,6 +15,10 @@ use Rattle.stepper.proofs.move_in.Tie as tie
 -- past the second test: the input is in the table
 input-in : (c : tie.Else2) → c .before .before .before .before .args .input < 2 ^ c .before .before .before .before .args .k
 input-in c = rw (← c .before .pow2 .ensures .0) (c .if2 .left)
+
+-- .. and then the low byte of the next state is known
+known : (c : tie.After-next-low) → let a = c .before .before .before .before .before .args in Low (streamIn (a .file .now)) (a .k) (a .n) (a .state) (a .input) (c .next-low .result)
+known c = record { few = c .before .before .before .before .before .pre .size .states; state-in = c .before .before .before .if1 .left; input-in = input-in (c .before); low = c .next-low .ensures }
 
 refused-requires : tie.Need-refused-requires
 refused-requires c κs = search needs
@@ -34,8 +38,8 @@ returns-2 c = let a = c .before .before .before .before .before .args in
     let h : 2 ^ a .k ≤ a .input = rw (← c .before .before .pow2 .ensures .0) (c .before .if2 .taken) in
     ap meaning (c .refused2 .ensures) ∙ sym (move-no-input (streamIn (a .file .now)) (a .k) (a .o) (a .state) (a .n) (a .input) (c .before .before .before .if1 .left) h)
 
-next-at-requires : tie.Need-next-at-requires
-next-at-requires c κs = let a = c .before .before .before .before .args in
+next-low-requires : tie.Need-next-low-requires
+next-low-requires c κs = let a = c .before .before .before .before .args in
     let z = c .before .before .before .before .pre in
     (z .size .inputs, omega arith, input-in c, rw (z .exact) (next-inside (a .k) (a .state) (a .n) (a .input) (c .before .before .if1 .left) (input-in c)))
 
@@ -43,19 +47,40 @@ refused-requires-3 : tie.Need-refused-requires-3
 refused-requires-3 c κs = search needs
 
 returns-3 : tie.Need-returns-3
-returns-3 c = let a = c .before .before .before .before .before .before .before .args in
-    let h : a .n ≤ nextAt (streamIn (a .file .now)) (a .k) (a .state) (a .input) = rw (← c .before .before .next-at .ensures .0) (c .before .if3 .taken) in
-    ap meaning (c .refused3 .ensures) ∙ sym (move-beyond (streamIn (a .file .now)) (a .k) (a .o) (a .state) (a .n) (a .input) (c .before .before .before .before .before .if1 .left) (input-in (c .before .before .before)) h)
+returns-3 c = ap meaning (c .refused3 .ensures) ∙ beyond (known (c .before .before)) _ (c .before .if3 .taken)
 
 stand-in-requires : tie.Need-stand-in-requires
 stand-in-requires c κs = search needs
 
+enum-told : tie.Need-enum-told
+enum-told c = search needs
+
+enum-told-2 : tie.Need-enum-told-2
+enum-told-2 c = search needs
+
+refused-requires-4 : tie.Need-refused-requires-4
+refused-requires-4 c κs = search needs
+
 returns-4 : tie.Need-returns-4
-returns-4 c = let a = c .before .before .before .before .before .before .before .args in
-    let b = streamIn (a .file .now) in
-    let e = c .before .before .next-at .ensures .0 in
-    let h : nextAt b (a .k) (a .state) (a .input) < a .n = rw (← e) (c .before .if3 .left) in
-    c .stand-in .ensures ∙ ap (standAnswer b (a .k) (a .o)) e ∙ sym (move-on b (a .k) (a .o) (a .state) (a .n) (a .input) (c .before .before .before .before .before .if1 .left) (input-in (c .before .before .before)) h)
+returns-4 c =
+    ap meaning (c .refused4 .ensures)
+    ∙ spare (known (c .before .before .before .before .before)) _ (sym (ap meaning (c .before .enum-told2 .given .1)) ∙ c .before .before .before .stand-in .ensures)
+
+next-at-requires : tie.Need-next-at-requires
+next-at-requires c κs = next-low-requires (c .before .before .before .before .before) κs
+
+refused-requires-5 : tie.Need-refused-requires-5
+refused-requires-5 c κs = search needs
+
+returns-5 : tie.Need-returns-5
+returns-5 c =
+    ap meaning (c .refused5 .ensures)
+    ∙ high (known (c .before .before .before .before .before .before .before)) _ (λ e. c .before .if4 .taken (c .before .before .next-at .ensures .0 ∙ e))
+
+returns-6 : tie.Need-returns-6
+returns-6 c =
+    c .before .before .before .before .stand-in .ensures
+    ∙ on (known (c .before .before .before .before .before .before)) _ (sym (c .before .next-at .ensures .0) ∙ c .if4 .left) (c .before .before .before .before .before .if3 .left)
 
 pub move-in-spec : {M : Type 1} → statement M
 move-in-spec =
@@ -66,8 +91,15 @@ move-in-spec =
     pow2-requires
     refused-requires-2
     returns-2
-    next-at-requires
+    next-low-requires
     refused-requires-3
     returns-3
     stand-in-requires
-    returns-4)
+    enum-told
+    enum-told-2
+    refused-requires-4
+    returns-4
+    next-at-requires
+    refused-requires-5
+    returns-5
+    returns-6)
