@@ -1,0 +1,1 @@
+// What a text's program is once it lies in bytes: a definition, no code.
