@@ -1,0 +1,74 @@
+-- `plain::assign` meets its contract.
+-- Assumes nothing.
+use mathlib.Core.Path.{refl, _∙_}
+use Rattle.plain.proofs.Laws.{plain-assign}
+use borrow.Author.Needs.{needs}
+use Rattle.plain.proofs.assign.Statement.{statement}
+use Rattle.plain.proofs.assign.Tie as tie
+
+begun-requires : tie.Need-begun-requires
+begun-requires c κs = search needs
+
+word-from-requires : tie.Need-word-from-requires
+word-from-requires c κs = search needs
+
+word-from-requires-2 : tie.Need-word-from-requires-2
+word-from-requires-2 c κs = search needs
+
+expr-requires : tie.Need-expr-requires
+expr-requires c κs = search needs
+
+find-requires : tie.Need-find-requires
+find-requires c κs = c .before .before .before .before .before .before .before .before .before .before .before .before .pre .listed
+
+number-of-requires : tie.Need-number-of-requires
+number-of-requires c κs = search needs
+
+width-of-requires : tie.Need-width-of-requires
+width-of-requires c κs = search needs
+
+assigned-requires : tie.Need-assigned-requires
+assigned-requires c κs = search needs
+
+cast-finish : tie.Need-cast-finish
+cast-finish c = search needs
+
+finish-requires : tie.Need-finish-requires
+finish-requires c κs = search needs
+
+same-length : tie.Need-same-length
+same-length c =
+    let k₁ = c .before .before in
+    let k₂ = k₁ .before .before .before .before .before .before .before .before .before .before in
+    k₁ .finish .ensures .long ∙ k₂ .expr .ensures .long
+
+returns : tie.Need-returns
+returns c =
+    let k₁ = c .before .before in
+    let k₂ = k₁ .before .before .before in
+    let k₃ = k₂ .before in
+    let k₄ = k₃ .before in
+    let k₅ = k₄ .before in
+    let k₆ = k₅ .before .before .before .before in
+    let k₇ = k₆ .before .before in
+    let k₈ = k₇ .before in
+    let k₉ = k₈ .before .before in
+    let k₁₀ = k₉ .before .before .before .before in
+    λ l b. plain-assign (k₁₀ .pre .near) (k₉ .begun .ensures) (k₈ .word-from .ensures) refl (k₇ .word-from2 .ensures) (k₆ .expr .ensures) (k₅ .find .ensures) (k₄ .number-of .ensures) (k₃ .width-of .ensures) (k₂ .assigned .ensures) (k₁ .finish .ensures)
+
+pub assign-spec : {M : Type 1} → statement M
+assign-spec =
+    tie.close
+    (tie.spec
+    begun-requires
+    word-from-requires
+    word-from-requires-2
+    expr-requires
+    find-requires
+    number-of-requires
+    width-of-requires
+    assigned-requires
+    cast-finish
+    finish-requires
+    same-length
+    returns)

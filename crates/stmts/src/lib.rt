@@ -1,0 +1,354 @@
+// Statements read from a text: what is noted of them, and their nodes written into lent bytes. A statement, a list, cases and branches, one in the other.
+ghost use mathlib.Core.Bool.{Bool, true, false};
+ghost use Prim.Native.Nat.{_*_, _≤_, _<_};
+ghost use lib.ListN.{length};
+ghost use Rattle.names.specs.Look.{lookIn};
+ghost use Rattle.hand.specs.Along.{Near};
+ghost use Rattle.items.specs.Walk.{startMarks};
+ghost use Rattle.items.specs.Came.{Ready, RowCame, One, All, CaseCame, CasesCame, BranchCame, BranchesCame};
+use hand::Here;
+use items::Marks;
+use items::Read;
+
+// A statement, from its first word on, with so many levels left; whether it stands inside a loop, and inside a switch or a parallel.
+fn stmt(
+    s: &[u8],
+    d: &[u8],
+    count: u16,
+    t: &mut [u8],
+    first: Here,
+    marks: Marks,
+    lp: bool,
+    br: bool,
+    levels: u8,
+) -> Read
+    requires { ⌜ Ready (now s) (now d) count levels first ⌝ }
+    ensures { λ r. ⌜ One (lookIn (now (s .entry)) (now (d .entry)) count) (now (s .entry)) levels lp br first marks (now (t .entry)) (now (t .exit)) r ⌝ }
+{
+    let row = items::rows::statement_row(first.kind);
+    if items::rows::is_plain(row) {
+        return plain::plain(s, d, count, t, row, first, marks, lp, br, levels);
+    }
+    if levels == 0 {
+        return items::made(first, marks);
+    }
+    if row == 7 {
+        return while_loop(s, d, count, t, first, marks, br, levels);
+    }
+    if row == 8 {
+        return loop_always(s, d, count, t, first, marks, br, levels);
+    }
+    if row == 10 {
+        return switch(s, d, count, t, first, marks, lp, levels);
+    }
+    if row == 12 {
+        return parallel(s, d, count, t, first, marks, lp, levels);
+    }
+    choice(s, d, count, t, first, marks, lp, br, levels)
+}
+
+// `loop`: its statements stand in a loop.
+fn loop_always(
+    s: &[u8],
+    d: &[u8],
+    count: u16,
+    t: &mut [u8],
+    first: Here,
+    marks: Marks,
+    br: bool,
+    levels: u8,
+) -> Read
+    requires { ⌜ (0 < levels) × Ready (now s) (now d) count levels first ⌝ }
+    ensures { λ r. ⌜ ((l : Bool) → RowCame (lookIn (now (s .entry)) (now (d .entry)) count) (now (s .entry)) levels l br 8 first marks (now (t .entry)) (now (t .exit)) r) ⌝ }
+{
+    let i = marks.nodes;
+    let p = first.place;
+    let m = items::noted::begun(marks, p);
+    let second = hand::word_from(s, first.next);
+    let a = list(s, d, count, t, second, m, true, br, levels - 1);
+    let v = a.word;
+    let k = a.marks;
+    let next = hand::word_from(s, v.next);
+    written::finish(t, i, 8, p, next, k, 0, 0, 0, 0)
+}
+
+// `while`: its statements stand in a loop.
+fn while_loop(
+    s: &[u8],
+    d: &[u8],
+    count: u16,
+    t: &mut [u8],
+    first: Here,
+    marks: Marks,
+    br: bool,
+    levels: u8,
+) -> Read
+    requires { ⌜ (0 < levels) × Ready (now s) (now d) count levels first ⌝ }
+    ensures { λ r. ⌜ ((l : Bool) → RowCame (lookIn (now (s .entry)) (now (d .entry)) count) (now (s .entry)) levels l br 7 first marks (now (t .entry)) (now (t .exit)) r) ⌝ }
+{
+    let i = marks.nodes;
+    let p = first.place;
+    let m = items::noted::begun(marks, p);
+    let second = hand::word_from(s, first.next);
+    let below = levels - 1;
+    let g = plain::test(s, d, count, t, second, m, p, below);
+    let w = g.word;
+    let k = g.marks;
+    let body = hand::word_from(s, w.next);
+    let a = list(s, d, count, t, body, k, true, br, below);
+    let v = a.word;
+    let j = a.marks;
+    let next = hand::word_from(s, v.next);
+    written::finish(t, i, 7, p, next, j, g.root, 0, g.looks as u16, 0)
+}
+
+// `if`, with or without `else`.
+fn choice(
+    s: &[u8],
+    d: &[u8],
+    count: u16,
+    t: &mut [u8],
+    first: Here,
+    marks: Marks,
+    lp: bool,
+    br: bool,
+    levels: u8,
+) -> Read
+    requires { ⌜ (0 < levels) × Ready (now s) (now d) count levels first ⌝ }
+    ensures { λ r. ⌜ RowCame (lookIn (now (s .entry)) (now (d .entry)) count) (now (s .entry)) levels lp br 6 first marks (now (t .entry)) (now (t .exit)) r ⌝ }
+{
+    let i = marks.nodes;
+    let p = first.place;
+    let m = items::noted::begun(marks, p);
+    let second = hand::word_from(s, first.next);
+    let below = levels - 1;
+    let g = plain::test(s, d, count, t, second, m, p, below);
+    let w = g.word;
+    let k = g.marks;
+    let a = list(s, d, count, t, w, k, lp, br, below);
+    let v = a.word;
+    let j = a.marks;
+    let next = hand::word_from(s, v.next);
+    if v.kind != 42 {
+        return written::finish(t, i, 6, p, next, j, g.root, j.nodes, g.looks as u16, 0);
+    }
+    let b = list(s, d, count, t, next, j, lp, br, below);
+    let x = b.word;
+    let q = b.marks;
+    let end = hand::word_from(s, x.next);
+    written::finish(t, i, 6, p, end, q, g.root, j.nodes, g.looks as u16, 0)
+}
+
+// `switch`: a case, the cases behind it, and the default.
+fn switch(
+    s: &[u8],
+    d: &[u8],
+    count: u16,
+    t: &mut [u8],
+    first: Here,
+    marks: Marks,
+    lp: bool,
+    levels: u8,
+) -> Read
+    requires { ⌜ (0 < levels) × Ready (now s) (now d) count levels first ⌝ }
+    ensures { λ r. ⌜ ((b : Bool) → RowCame (lookIn (now (s .entry)) (now (d .entry)) count) (now (s .entry)) levels lp b 10 first marks (now (t .entry)) (now (t .exit)) r) ⌝ }
+{
+    let i = marks.nodes;
+    let p = first.place;
+    let m = items::noted::begun(marks, p);
+    let second = hand::word_from(s, first.next);
+    let below = levels - 1;
+    let a = one_case(s, d, count, t, second, m, lp, below);
+    let v = a.word;
+    let k = a.marks;
+    let c = cases(s, d, count, t, v, k, lp, below);
+    let w = c.word;
+    let j = c.marks;
+    let colon = hand::word_from(s, w.next);
+    let last = hand::word_from(s, colon.next);
+    let z = list(s, d, count, t, last, j, lp, true, below);
+    let x = z.word;
+    let q = z.marks;
+    let next = hand::word_from(s, x.next);
+    written::finish(t, i, 11, p, next, q, 0, 0, 0, 0)
+}
+
+// `parallel`: two branches, and those behind them.
+fn parallel(
+    s: &[u8],
+    d: &[u8],
+    count: u16,
+    t: &mut [u8],
+    first: Here,
+    marks: Marks,
+    lp: bool,
+    levels: u8,
+) -> Read
+    requires { ⌜ (0 < levels) × Ready (now s) (now d) count levels first ⌝ }
+    ensures { λ r. ⌜ ((b : Bool) → RowCame (lookIn (now (s .entry)) (now (d .entry)) count) (now (s .entry)) levels lp b 12 first marks (now (t .entry)) (now (t .exit)) r) ⌝ }
+{
+    let i = marks.nodes;
+    let p = first.place;
+    let m = items::noted::begun(marks, p);
+    let second = hand::word_from(s, first.next);
+    let below = levels - 1;
+    let o = items::noted::with_acts(m, 0);
+    let a = branch(s, d, count, t, second, o, lp, below);
+    let v = a.word;
+    let k = a.marks;
+    let other = hand::word_from(s, v.next);
+    let b = branch(s, d, count, t, other, k, lp, below);
+    let w = b.word;
+    let j = b.marks;
+    let c = branches(s, d, count, t, w, j, lp, below);
+    let x = c.word;
+    let q = c.marks;
+    let next = hand::word_from(s, x.next);
+    let n = items::noted::together(q, marks.acts, p);
+    written::finish(t, i, 12, p, next, n, 0, 0, 0, 0)
+}
+
+// A list of statements.
+pub fn list(
+    s: &[u8],
+    d: &[u8],
+    count: u16,
+    t: &mut [u8],
+    first: Here,
+    marks: Marks,
+    lp: bool,
+    br: bool,
+    levels: u8,
+) -> Read
+    requires { ⌜ Ready (now s) (now d) count levels first ⌝ }
+    ensures { λ r. ⌜ All (lookIn (now (s .entry)) (now (d .entry)) count) (now (s .entry)) levels lp br first marks (now (t .entry)) (now (t .exit)) r ⌝ }
+{
+    let mut at = stmt(s, d, count, t, first, marks, lp, br, levels);
+    loop {
+        let w = at.word;
+        let k = at.marks;
+        if w.kind != 12 {
+            return at;
+        }
+        let v = hand::word_from(s, w.next);
+        if items::rows::statement_row(v.kind) == 13 {
+            return items::made(v, k);
+        }
+        at = stmt(s, d, count, t, v, k, lp, br, levels);
+    }
+}
+
+// A case, from its first word on.
+fn one_case(
+    s: &[u8],
+    d: &[u8],
+    count: u16,
+    t: &mut [u8],
+    first: Here,
+    marks: Marks,
+    lp: bool,
+    levels: u8,
+) -> Read
+    requires { ⌜ Ready (now s) (now d) count levels first ⌝ }
+    ensures { λ r. ⌜ CaseCame (lookIn (now (s .entry)) (now (d .entry)) count) (now (s .entry)) levels lp true first marks (now (t .entry)) (now (t .exit)) r ⌝ }
+{
+    let i = marks.nodes;
+    let p = first.place;
+    let m = items::noted::cased(marks);
+    let second = hand::word_from(s, first.next);
+    let g = plain::test(s, d, count, t, second, m, p, levels);
+    let w = g.word;
+    let k = g.marks;
+    let a = list(s, d, count, t, w, k, lp, true, levels);
+    let v = a.word;
+    let j = a.marks;
+    written::finish(t, i, 13, p, v, j, g.root, j.nodes, g.looks as u16, 0)
+}
+
+// Cases, as long as there are any.
+fn cases(
+    s: &[u8],
+    d: &[u8],
+    count: u16,
+    t: &mut [u8],
+    first: Here,
+    marks: Marks,
+    lp: bool,
+    levels: u8,
+) -> Read
+    requires { ⌜ Ready (now s) (now d) count levels first ⌝ }
+    ensures { λ r. ⌜ CasesCame (lookIn (now (s .entry)) (now (d .entry)) count) (now (s .entry)) levels lp true first marks (now (t .entry)) (now (t .exit)) r ⌝ }
+{
+    let mut at = items::made(first, marks);
+    loop {
+        let w = at.word;
+        let k = at.marks;
+        if w.kind != 50 {
+            return at;
+        }
+        at = one_case(s, d, count, t, w, k, lp, levels);
+    }
+}
+
+// A branch: its activities are counted from 1, and added to those before it.
+fn branch(
+    s: &[u8],
+    d: &[u8],
+    count: u16,
+    t: &mut [u8],
+    first: Here,
+    marks: Marks,
+    lp: bool,
+    levels: u8,
+) -> Read
+    requires { ⌜ Ready (now s) (now d) count levels first ⌝ }
+    ensures { λ r. ⌜ BranchCame (lookIn (now (s .entry)) (now (d .entry)) count) (now (s .entry)) levels lp first marks (now (t .entry)) (now (t .exit)) r ⌝ }
+{
+    let m = items::noted::with_acts(marks, 1);
+    let a = list(s, d, count, t, first, m, lp, true, levels);
+    written::branched(t, marks, a)
+}
+
+// Branches, as long as there are any.
+fn branches(
+    s: &[u8],
+    d: &[u8],
+    count: u16,
+    t: &mut [u8],
+    first: Here,
+    marks: Marks,
+    lp: bool,
+    levels: u8,
+) -> Read
+    requires { ⌜ Ready (now s) (now d) count levels first ⌝ }
+    ensures { λ r. ⌜ BranchesCame (lookIn (now (s .entry)) (now (d .entry)) count) (now (s .entry)) levels lp first marks (now (t .entry)) (now (t .exit)) r ⌝ }
+{
+    let mut at = items::made(first, marks);
+    loop {
+        let w = at.word;
+        let k = at.marks;
+        if w.kind != 2 {
+            return at;
+        }
+        let v = hand::word_from(s, w.next);
+        at = branch(s, d, count, t, v, k, lp, levels);
+    }
+}
+
+// The statements of a program, which stand in no loop, switch or parallel, with 32 levels.
+pub fn body(s: &[u8], d: &[u8], count: u16, t: &mut [u8], first: Here) -> Read
+    requires { ⌜ Near (now s) first × (count * 4 ≤ length (now d)) ⌝ }
+    ensures { λ r. ⌜ All (lookIn (now (s .entry)) (now (d .entry)) count) (now (s .entry)) 32 false false first startMarks (now (t .entry)) (now (t .exit)) r ⌝ }
+{
+    list(
+        s,
+        d,
+        count,
+        t,
+        first,
+        items::noted::start(),
+        false,
+        false,
+        32,
+    )
+}
