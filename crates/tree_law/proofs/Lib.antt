@@ -1,0 +1,9 @@
+pub mod Wrote
+pub mod Same
+pub mod Node
+pub mod Moved
+pub mod Held
+pub mod Right
+pub mod Stored
+pub mod Few
+pub mod Program
