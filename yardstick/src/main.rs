@@ -11,7 +11,8 @@ const USAGE: &str = "usage: yardstick list < SOURCE
        yardstick file < SOURCE > TABLE
        yardstick batch < RECORDS
        yardstick gen SEED COUNT > RECORDS
-       yardstick front DIRECTORY < RECORDS
+       yardstick sources DIRECTORY < RECORDS
+       yardstick read FILE..
 a record is a line `LEN ROOM WORK BUF`, LEN bytes of source, and one LF";
 
 fn main() -> ExitCode {
@@ -21,7 +22,8 @@ fn main() -> ExitCode {
         ["list"] => list(),
         ["file"] => file(),
         ["batch"] => batch(),
-        ["front", directory] => front(directory),
+        ["sources", directory] => sources(directory),
+        ["read", ref files @ ..] => read(files),
         ["gen", seed, count] => match (seed.parse(), count.parse()) {
             (Ok(seed), Ok(count)) => generate(seed, count),
             _ => return usage(),
@@ -77,19 +79,25 @@ fn batch() -> io::Result<ExitCode> {
     Ok(ExitCode::SUCCESS)
 }
 
-/// Writes each record's source into a file of its own, and for each what a first pass says of it: a program, or 3, 4 or 5.
-fn front(directory: &str) -> io::Result<ExitCode> {
+/// Writes each record's source into a file of its own.
+fn sources(directory: &str) -> io::Result<ExitCode> {
     let mut records = BufReader::new(io::stdin().lock());
-    let mut answers = io::BufWriter::new(io::stdout().lock());
     let mut number = 0;
     while let Some(record) = Record::read(&mut records)? {
-        let path = format!("{directory}/{number:05}");
-        std::fs::write(&path, &record.source)?;
-        match compile(&record.source, Lent::AMPLE) {
-            Err(refusal) if refusal.number <= 5 => writeln!(answers, "{path}: {refusal}")?,
-            _ => writeln!(answers, "{path}: grammatical")?,
-        }
+        std::fs::write(format!("{directory}/{number:05}"), &record.source)?;
         number += 1;
+    }
+    Ok(ExitCode::SUCCESS)
+}
+
+/// What each file says as a source: `good`, or refused with 3 to 10.
+fn read(files: &[&str]) -> io::Result<ExitCode> {
+    let mut answers = io::BufWriter::new(io::stdout().lock());
+    for file in files {
+        match compile(&std::fs::read(file)?, Lent::AMPLE) {
+            Err(refusal) if refusal.number <= 10 => writeln!(answers, "{file}: {refusal}")?,
+            _ => writeln!(answers, "{file}: good")?,
+        }
     }
     answers.flush()?;
     Ok(ExitCode::SUCCESS)

@@ -53,17 +53,37 @@ fn many_have_many_states() {
     assert!(counts.iter().filter(|&&count| count > 100).count() > counts.len() / 100);
 }
 
+/// Nothing stands before a place that is refused but whole words that a program can begin with: no blank from there up to `at`.
+fn is_in_the_word_of(text: &[u8], place: usize, at: usize) -> bool {
+    place >= at || !text[place..at].contains(&b' ')
+}
+
 #[test]
 fn every_prefix_and_every_changed_byte() {
     let blink = b"program b; input G; integer x[2]; loop if G & x[0] then x := x + 1 endif endloop endprog";
-    for end in 0..=blink.len() {
-        let _ = compile(&blink[..end], yardstick::Lent::AMPLE);
+    assert!(compile(blink, yardstick::Lent::AMPLE).is_ok());
+    // A text that is cut off is refused with 5: at its end, or at the word that the cut made.
+    for end in 0..blink.len() {
+        let refusal = compile(&blink[..end], yardstick::Lent::AMPLE).err().unwrap();
+        assert_eq!(refusal.number, 5, "{end}");
+        assert!(refusal.place <= end && is_in_the_word_of(blink, refusal.place, end), "{end}: {refusal}");
     }
+    // Another byte is refused with 4 at its own word, with 5 there or later, with 6 to 10 inside the text; or it is a program.
     for at in 0..blink.len() {
         for byte in 0..=255 {
             let mut changed = blink.to_vec();
             changed[at] = byte;
-            let _ = compile(&changed, yardstick::Lent::AMPLE);
+            let Err(refusal) = compile(&changed, yardstick::Lent::AMPLE) else { continue };
+            let well = match refusal.number {
+                4 => refusal.place <= at && is_in_the_word_of(&changed, refusal.place, at),
+                5 => refusal.place <= blink.len() && is_in_the_word_of(blink, refusal.place, at),
+                6..=10 => refusal.place < blink.len(),
+                number => number == 11 && refusal.place == 0,
+            };
+            assert!(well, "byte {at} as {byte}: {refusal}");
+            if changed == blink {
+                panic!("the text itself is refused: {refusal}");
+            }
         }
     }
 }

@@ -2,7 +2,7 @@
 
 mod common;
 
-use common::{compiled, rows, states};
+use common::{compiled, keep, rows, states};
 use yardstick::file::{open, stream, Controller};
 use yardstick::listing::listing;
 use yardstick::refusal::Refusal;
@@ -16,6 +16,7 @@ fn with(declarations: &str, list: &str) -> String {
 
 fn with_room(list: &str, room: u64) -> Result<usize, Refusal> {
     let source = format!("program p; {list} endprog");
+    keep(&source);
     let lent = Lent { room, work: work_needed(room), ..Lent::AMPLE };
     compile(source.as_bytes(), lent).map(|compiled| compiled.states())
 }

@@ -1,19 +1,21 @@
-// Is it a program? `front` reads a source on standard input; `front FILE..` reads each file, and writes its name first.
-use grammar::Checked;
+// What does a source say? `front` reads one on standard input; `front FILE..` reads each file, and writes its name first.
 use libc::STDIN_FILENO;
 use libc::STDOUT_FILENO;
+use source::Answer;
 
+// Text to standard output.
 fn text(s: &[u8]) {
     io::write_all(STDOUT_FILENO, s);
 }
 
-fn answer(source: &[u8]) {
-    let checked = grammar::check(source);
-    match checked {
-        Checked::Grammatical => {
-            text(b"grammatical\n");
+// What a source says: `good`, or `refused N at P`.
+fn answer(bytes: &[u8]) {
+    let answer = source::check(bytes);
+    match answer {
+        Answer::Good => {
+            text(b"good\n");
         }
-        Checked::Refused { number, place } => {
+        Answer::Refused { number, place } => {
             text(b"refused ");
             io::print_decimal(STDOUT_FILENO, number as u64);
             text(b" at ");
@@ -30,6 +32,7 @@ fn source_from(fd: i32) {
     answer(&buffer[..got]);
 }
 
+// The file that argument n names.
 fn named(n: usize) {
     let mut path = io::buffer();
     let length = os::arg(n, &mut path);

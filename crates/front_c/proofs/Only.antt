@@ -3,7 +3,7 @@
 use mathlib.Core.Path.{_≡_, sym, ap, _∙_}
 use mathlib.Core.List.{List}
 use Prim.Native.Nat.{ℕ}
-use Rattle.grammar.proofs.Only.{check-only}
+use Rattle.source.proofs.Only.{check-only}
 use Rattle.front_c.specs.Code.{codeOf, Coded}
 
 pub code-only : {s : List ℕ} {r q : ℕ} → Coded s r → Coded s q → r ≡ q

@@ -1,7 +1,8 @@
-//! Generated records: good programs of every shape, damaged ones, and each size at its limit and one past it.
+//! Generated records: good programs of every shape, damaged ones, faulty ones, and each size at its limit and one past it.
 
 mod damage;
 mod edges;
+mod faults;
 mod program;
 mod random;
 
@@ -21,9 +22,10 @@ pub fn records(seed: u64) -> impl Iterator<Item = Record> {
 
 fn record(random: &mut Random) -> Record {
     match random.below(20) {
-        0..=8 => plain(good(random)),
-        9..=11 => tight(random),
-        12..=17 => plain(damage::source(random)),
+        0..=6 => plain(good(random)),
+        7..=9 => tight(random),
+        10..=12 => plain(damage::source(random)),
+        13..=18 => plain(faults::source(random)),
         _ => plain(edges::source(random)),
     }
 }

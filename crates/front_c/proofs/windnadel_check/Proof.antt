@@ -1,4 +1,4 @@
--- `front_c::windnadel_check` meets its contract: the number of the first pass's own answer.
+-- `front_c::windnadel_check` meets its contract: the number of the reading's own answer.
 -- Assumes nothing.
 use mathlib.Core.Path.{sym, ap}
 use Rattle.front_c.specs.Code.{codeOf}
@@ -12,8 +12,8 @@ check-requires c κs = search needs
 enum-told : tie.Need-enum-told
 enum-told c = search needs
 
-enum-known-checked : tie.Need-enum-known-checked
-enum-known-checked c = search needs
+enum-known-answer : tie.Need-enum-known-answer
+enum-known-answer c = search needs
 
 cast-result : tie.Need-cast-result
 cast-result c = search needs
@@ -31,7 +31,7 @@ returns : tie.Need-returns
 returns c = record { answer = c .before .before .check .result; says = c .before .before .check .ensures; is = sym (ap codeOf (c .enum-told .given .1)) }
 
 returns-2 : tie.Need-returns-2
-returns-2 c = record { answer = c .before .before .before .check .result; says = c .before .before .before .check .ensures; is = sym (ap codeOf (c .before .checked .given .1)) }
+returns-2 c = record { answer = c .before .before .before .check .result; says = c .before .before .before .check .ensures; is = sym (ap codeOf (c .before .answer .given .1)) }
 
 pub windnadel-check-spec : {M : Type 1} → statement M
 windnadel-check-spec =
@@ -39,7 +39,7 @@ windnadel-check-spec =
     (tie.spec
     check-requires
     enum-told
-    enum-known-checked
+    enum-known-answer
     cast-result
     mul-result
     cast-result-2

@@ -1,0 +1,7 @@
+pub mod Text
+pub mod Entered
+pub mod Notes
+pub mod Declared
+pub mod Body
+pub mod Whole
+pub mod Only
