@@ -1,0 +1,3 @@
+pub mod Area
+pub mod Indexed
+pub mod Nexts

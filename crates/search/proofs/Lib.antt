@@ -1,0 +1,4 @@
+pub mod States
+pub mod Turns
+pub mod Masked
+pub mod Holds
