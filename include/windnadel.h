@@ -1,5 +1,5 @@
 /*
- * Windnadel: a controller run from a table file.
+ * Windnadel: a controller run from a table file, and the compiler that makes one.
  *
  * A table file holds 1 to 67 blocks of 512 bytes. Firmware keeps it as plain
  * bytes, in flash or in memory, and keeps one number, the state:
@@ -8,16 +8,38 @@
  *     windnadel_step      once a clock, with that clock's inputs
  *     windnadel_outputs   the outputs that belong to a state
  *
+ * and on the machine where programs are written:
+ *
+ *     windnadel_compile   a source into a table file
+ *
  * Inputs and outputs are numbers by bits: the first declared is bit 0.
  *
- * All three calls:
- * - read file[0] to file[len - 1] at most and write nothing, so the file may
- *   lie in read-only memory; it needs no alignment;
- * - answer for any bytes, any length and any numbers: nothing is required of a
- *   file before it is handed in, but that its len bytes can be read;
- * - take len 0 too: file is then not read and may be NULL;
+ * All calls:
+ * - answer for any bytes, any length and any numbers: nothing is required of
+ *   what is handed in, but that it can be read, and written where it is lent;
+ * - take a length of 0 too: that pointer is then not used and may be NULL;
  * - keep nothing between calls and wait for nothing, so any thread or interrupt
- *   may call them at any time, as long as nobody changes the file meanwhile.
+ *   may call them at any time, as long as nobody changes what is lent meanwhile.
+ * Open, step and outputs read file[0] to file[len - 1] at most and write
+ * nothing, so the file may lie in read-only memory; it needs no alignment.
+ *
+ * Building. The calls are proved code for x86-64 with the System V convention;
+ * there is no other target today. Each archive is made by one command, with
+ * proof, in the folder target/staticlib:
+ *
+ *     rt staticlib stepper     libstepper.a: open, step, outputs
+ *     rt staticlib compiler    libcompiler.a: compile
+ *
+ * Linking. An archive is one object and stands alone or beside the other, in
+ * any order. It needs no C library: libstepper.a asks for nothing, libcompiler.a
+ * for memcpy and memset at most. For example
+ *
+ *     gcc -std=c99 -Iinclude main.c table.c target/staticlib/libstepper.a
+ *
+ * Sizes. libstepper.a has 2.1 KB of code and 1 KB of constants, and no data;
+ * open takes less than 1.2 KB of stack, step and outputs less than 64 bytes.
+ * libcompiler.a has 38 KB of code and constants, and no data; compile recurses as
+ * deep as a source nests, 32 levels at most, and takes less than 192 KB of stack.
  */
 #ifndef WINDNADEL_H
 #define WINDNADEL_H
@@ -32,13 +54,69 @@ extern "C" {
 /* Answers of step and outputs from here on are refusals. */
 #define WINDNADEL_REFUSED 65536u
 
-/* Refusals: the table file is not sound; the state or the input is not in its table. */
+/* Refusals of the three: the table file is not sound; the state or the input is not in its table. */
 #define WINDNADEL_NOT_SOUND 13u
 #define WINDNADEL_NOT_IN_TABLE 14u
 
 /* Bytes in a block, and in the largest file. */
 #define WINDNADEL_BLOCK 512u
 #define WINDNADEL_LARGEST_FILE (67u * WINDNADEL_BLOCK)
+
+/* The longest source, the largest room, and the work area that a room asks for. */
+#define WINDNADEL_LONGEST_SOURCE 8192u
+#define WINDNADEL_LARGEST_ROOM 256u
+#define WINDNADEL_WORK(room) (32768u + 64u * (room))
+
+/*
+ * Compiles a source. On success it writes the table file's blocks to file[0] on,
+ * leaves what is past them, and answers states + 65,536 * blocks. Otherwise it
+ * answers refusal * 2^32 + place and leaves the whole file buffer alone; the
+ * lowest refusal that applies is told, and of those with one number the
+ * earliest place, an offset into the source:
+ * - 1: room is not 1 to 256;           - 2: work_len is below 32,768 + 64 * room;
+ * - 3: source_len is above 8,192;      - 4: no word starts here, or it is too large;
+ * - 5: no program goes on so;          - 6: a name unknown, or declared again;
+ * - 7: a wrong kind;                   - 8: exit or break with nothing to leave;
+ * - 9: a size is passed;               - 10: a number could grow too large;
+ * - 11: more states than the room;     - 12: file_len is below the file's length.
+ * The place is 0 for 1, 2, 3, 11 and 12. `windnadel explain N` says more.
+ * What the work area holds before does not matter. Refusals 1 and 2 leave it
+ * alone; every other end leaves all of it, work_len bytes, zero. The three
+ * areas must not overlap. A room of 256 and buffers of WINDNADEL_WORK(256) and
+ * WINDNADEL_LARGEST_FILE bytes are enough for every program that compiles; a
+ * larger room never changes a file.
+ */
+uint64_t windnadel_compile(const uint8_t *source, size_t source_len, uint32_t room,
+                           uint8_t *work, size_t work_len, uint8_t *file, size_t file_len);
+
+/* Is this answer of compile a refusal? */
+static inline int windnadel_compile_refused(uint64_t answer)
+{
+    return (answer >> 32) != 0u;
+}
+
+/* The refusal in an answer of compile; 0 where it is none. */
+static inline uint32_t windnadel_compile_refusal(uint64_t answer)
+{
+    return (uint32_t)(answer >> 32);
+}
+
+/* The place in an answer of compile that is a refusal: an offset into the source, or 0. */
+static inline uint32_t windnadel_compile_place(uint64_t answer)
+{
+    return (uint32_t)(answer & 0xFFFFFFFFu);
+}
+
+/* The states and the blocks in an answer of compile that is no refusal; the file has 512 bytes a block. */
+static inline uint32_t windnadel_compile_states(uint64_t answer)
+{
+    return (uint32_t)(answer & 0xFFFFu);
+}
+
+static inline uint32_t windnadel_compile_blocks(uint64_t answer)
+{
+    return (uint32_t)(answer >> 16) & 0xFFFFu;
+}
 
 /*
  * Reads the whole file and answers the outputs of state 0 (0 to 65,535) where

@@ -1,0 +1,5 @@
+fn main() {
+    let here = std::env::var("CARGO_MANIFEST_DIR").expect("cargo says where the crate is");
+    println!("cargo:rustc-link-search=native={here}/../../target/staticlib");
+    println!("cargo:rerun-if-changed={here}/../../target/staticlib/libcompiler.a");
+}
