@@ -42,13 +42,17 @@ static void run(const char *name, const uint8_t *file, size_t len, const uint32_
         state = clocked(name, file, len, state, inputs[at]);
 }
 
+/* The mast's inputs by bits, as examples/mast.csml declares them. */
+enum { FROST = 1, METER = 8, SENT = 16 };
+
 int main(void)
 {
     static const uint32_t go[] = {0, 1, 0, 1, 1, 2, 0};
-    static const uint32_t dusk[] = {0, 1, 1, 3, 1, 3, 1, 4, 2, 1};
+    /* A frost alarm while the neighbour's meter is held high; bit 2 of the outputs, TAKE-METER, waits until it is sent. */
+    static const uint32_t frost[] = {FROST | METER, METER, METER, METER, 32, SENT | METER, METER, METER};
     uint8_t damaged[sizeof blink_file];
     run("blink", blink_file, sizeof blink_file, go, sizeof go / sizeof *go);
-    run("mast", mast_file, sizeof mast_file, dusk, sizeof dusk / sizeof *dusk);
+    run("mast", mast_file, sizeof mast_file, frost, sizeof frost / sizeof *frost);
     run("cut", blink_file, sizeof blink_file - 1, go, 1);
     memcpy(damaged, blink_file, sizeof damaged);
     damaged[16] ^= 1;

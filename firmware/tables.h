@@ -1,4 +1,4 @@
-/* The table files that this firmware carries, as they would lie in flash. */
+/* The table files that this firmware carries, as they would lie in flash; made from examples/NAME.csml. */
 #ifndef TABLES_H
 #define TABLES_H
 
@@ -7,7 +7,7 @@
 /* GO switches LAMP on and off. */
 extern const uint8_t blink_file[512];
 
-/* DARK asks for light; FAULT says that the burning lamp failed. LAMP, then SPARE, then only ALARM. */
-extern const uint8_t mast_file[512];
+/* The mast: inputs FROST, WATER, FIRE, METER, SENT; outputs KEY, LOST, TAKE-METER. */
+extern const uint8_t mast_file[15360];
 
 #endif

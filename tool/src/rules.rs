@@ -1,0 +1,151 @@
+//! The fourteen refusals in plain words, for messages and for `explain`.
+
+pub struct Rule {
+    pub title: &'static str,
+    /// What the place of the refusal is.
+    pub place: &'static str,
+    pub rule: &'static str,
+    /// What would be right, where nothing nearer to the case is known.
+    pub right: &'static str,
+    pub example: Example,
+}
+
+pub enum Example {
+    /// A program that is refused, and one that is not.
+    Programs { refused: &'static str, right: &'static str },
+    /// A way to meet the refusal that is no program.
+    Way(&'static str),
+}
+
+/// The rule with this number, 1 to 14.
+pub fn rule(number: u32) -> Option<&'static Rule> {
+    RULES.get((number as usize).checked_sub(1)?)
+}
+
+const RULES: [Rule; 14] = [
+    Rule {
+        title: "no such room",
+        place: "0",
+        rule: "the room, which is how many states a table may have, is 1 to 256",
+        right: "--room takes a number from 1 to 256; without it the room is 256",
+        example: Example::Way("windnadel compile blink.csml --room 0"),
+    },
+    Rule {
+        title: "the work area is short",
+        place: "0",
+        rule: "a compile needs a work area of 32,768 + 64 * room bytes",
+        right: "lend 49,152 bytes, enough for every room; the tool always does, so only a C program meets this",
+        example: Example::Way("windnadel_compile(source, length, 1, work, 32768, file, 34304), which needs 32,832"),
+    },
+    Rule {
+        title: "the source is too long",
+        place: "0",
+        rule: "a source has at most 8,192 bytes, blanks included",
+        right: "take out blanks, shorten names, or make two machines of it",
+        example: Example::Way("a source of 8,193 bytes, whatever they are"),
+    },
+    Rule {
+        title: "no word starts here, or a word is too large",
+        place: "that byte, or the first byte of the word",
+        rule: "a program is made of names (a letter first, at most 16 bytes), numbers up to 65,535, the language's signs and \
+               blanks",
+        right: "take it out; there are no comments in the language yet",
+        example: Example::Programs {
+            refused: "program p; output LAMP; raise(LAMP) # on\nendprog",
+            right: "program p; output LAMP; raise(LAMP)\nendprog",
+        },
+    },
+    Rule {
+        title: "no program goes on so",
+        place: "the word, or the length of the text where it ends too early",
+        rule: "a program goes on as the grammar says, and no more than 32 levels stand open at once",
+        right: "`windnadel check` says what could stand at the place",
+        example: Example::Programs {
+            refused: "program p; output LAMP; raise LAMP endprog",
+            right: "program p; output LAMP; raise(LAMP) endprog",
+        },
+    },
+    Rule {
+        title: "a name is unknown, or declared again",
+        place: "the name",
+        rule: "a name is declared once, before the statements; upper and lower case are different",
+        right: "declare it once, before the first statement",
+        example: Example::Programs {
+            refused: "program p; integer sum[8]; sum := sum-5 endprog",
+            right: "program p; integer sum[8]; sum := sum - 5 endprog",
+        },
+    },
+    Rule {
+        title: "a wrong kind, a changed input, or a bit outside its integer",
+        place: "the operator, `int`, `if`, `while` or `case`; `raise`, `lower` or `invert`; the assigned or indexed name",
+        rule: "operators and statements take booleans or integers, each its own kind; inputs are never changed; a bit's \
+               number is below its integer's width",
+        right: "`int(..)` makes a number of a boolean, a comparison makes a boolean of two numbers",
+        example: Example::Programs {
+            refused: "program p; integer x[4]; if x > 10 & x < 14 then skip endif endprog",
+            right: "program p; integer x[4]; if (x > 10) & (x < 14) then skip endif endprog",
+        },
+    },
+    Rule {
+        title: "nothing to leave",
+        place: "the word `exit` or `break`",
+        rule: "`exit` leaves the smallest loop around it, `break` the smallest switch or parallel, and there must be one",
+        right: "put a loop, or a switch or parallel, around it",
+        example: Example::Programs {
+            refused: "program p; input GO; if GO then exit endif; skip endprog",
+            right: "program p; input GO; loop if GO then exit endif endloop; skip endprog",
+        },
+    },
+    Rule {
+        title: "a size is passed",
+        place: "the first name, number, statement or part too many; the `parallel` with too many activities",
+        rule: "at most 6 inputs, 16 outputs, 32 bits that are no inputs, 255 statements, 1,024 parts of expressions, a delay \
+               of 255 and 8 activities at once; widths are 1 to 16",
+        right: "do with less, or make two machines of it",
+        example: Example::Programs {
+            refused: "program p; integer x[17]; x := 1 endprog",
+            right: "program p; integer x[16]; x := 1 endprog",
+        },
+    },
+    Rule {
+        title: "a number could grow too large",
+        place: "the operator",
+        rule: "no operator's result may be able to pass 2,147,483,647, reckoned from the widths and numbers in it",
+        right: "take narrower integers or smaller numbers, or do it in two assignments",
+        example: Example::Programs {
+            refused: "program p; integer x[16]; x := x * 40000 endprog",
+            right: "program p; integer x[16]; x := x * 30000 endprog",
+        },
+    },
+    Rule {
+        title: "too many states",
+        place: "0",
+        rule: "no more states may be reachable than the room has",
+        right: "fewer or narrower variables, shorter delays, or fewer activities at once make fewer states",
+        example: Example::Programs {
+            refused: "program p; integer x[9]; loop x := x + 1 endloop endprog",
+            right: "program p; integer x[8]; loop x := x + 1 endloop endprog",
+        },
+    },
+    Rule {
+        title: "the file buffer is short",
+        place: "0",
+        rule: "the whole table file must fit into the buffer that is lent for it",
+        right: "lend 34,304 bytes, enough for every table; the tool always does, so only a C program meets this",
+        example: Example::Way("windnadel_compile(source, length, 256, work, 49152, file, 511)"),
+    },
+    Rule {
+        title: "the table file is not sound",
+        place: "the position of the bad block, counted from 0; 0 for all else",
+        rule: "a table file is 1 to 67 blocks of 512 bytes, each with its number, their count and its check, around one table",
+        right: "compile the source again, or copy the file again",
+        example: Example::Way("windnadel open of a file of 511 bytes"),
+    },
+    Rule {
+        title: "no such state or input",
+        place: "0",
+        rule: "a step takes a state of the table, and an input below 2 to the number of its inputs",
+        right: "the run goes on from the same state: give an input that the table has",
+        example: Example::Way("windnadel run blink.csml 2, which has one input: 0 and 1 are all there is"),
+    },
+];
