@@ -1,17 +1,15 @@
-//! Whole compiles: the proved compiler beside the yardstick, in turns, on this machine, now. Nothing passes or fails by it.
+//! Whole compiles and single clocks: the proved ones beside the yardstick's, in turns, on this machine, now. Nothing passes or fails by it.
 
+mod clocks;
+mod rounds;
 mod sources;
 
 use std::hint::black_box;
-use std::time::{Duration, Instant};
 
 use yardstick::{work_needed, Lent, LARGEST_ROOM};
 
 const ROOM: u32 = LARGEST_ROOM as u32;
 const LARGEST_FILE: usize = 67 * 512;
-/// Rounds of each, and how long one takes at least.
-const ROUNDS: usize = 41;
-const ROUND: Duration = Duration::from_millis(4);
 
 #[link(name = "compiler", kind = "static")]
 extern "C" {
@@ -56,35 +54,30 @@ fn plain(source: &[u8]) -> (u64, Vec<u8>) {
     }
 }
 
-fn time<T>(calls: u32, mut call: impl FnMut() -> T) -> Duration {
-    let from = Instant::now();
-    for _ in 0..calls {
-        black_box(call());
-    }
-    from.elapsed() / calls
-}
-
-/// The third lowest: what the machine does undisturbed, and no lucky reading.
-fn third(mut times: Vec<Duration>) -> f64 {
-    times.sort();
-    times[2].as_secs_f64() * 1e6
+/// What a compile takes in all, and how much of it goes into reading the text, the search and the file.
+fn measured(name: &str, source: &[u8], areas: &mut Areas, without: &mut Areas) {
+    let (answer, file) = plain(source);
+    assert_eq!(proved(source, areas), answer, "{name}");
+    assert_eq!(areas.file[..file.len()], file, "{name}");
+    let mut whole = || proved(source, areas);
+    let mut unwritten = || proved(source, without);
+    let mut reading = || clocks::reading(source);
+    let mut plain = || black_box(plain(source)).0;
+    let [ours, unwritten, reading, theirs] =
+        rounds::in_turns([&mut whole, &mut unwritten, &mut reading, &mut plain]).map(|seconds| seconds * 1e6);
+    let said = if answer >> 32 == 0 { format!("{} states", answer % 65_536) } else { format!("refusal {}", answer >> 32) };
+    println!("{name:<22} {ours:9.1} us; yardstick {theirs:9.1} us, ratio {:5.2} ({said})", ours / theirs);
+    println!("{:<22} reading {reading:.1}, search {:.1}, file {:.1}", "", unwritten - reading, ours - unwritten);
 }
 
 fn main() {
-    let mut areas = Areas { work: vec![0; work_needed(LARGEST_ROOM) as usize], file: vec![0; LARGEST_FILE] };
+    let work = vec![0; work_needed(LARGEST_ROOM) as usize];
+    let mut areas = Areas { work: work.clone(), file: vec![0; LARGEST_FILE] };
+    let mut without = Areas { work, file: Vec::new() };
     for (name, source) in sources::all() {
-        let (answer, file) = plain(&source);
-        assert_eq!(proved(&source, &mut areas), answer, "{name}");
-        assert_eq!(areas.file[..file.len()], file, "{name}");
-        let once = time(3, || plain(&source)).max(Duration::from_nanos(1));
-        let calls = (ROUND.as_nanos() / once.as_nanos()).clamp(1, 10_000) as u32;
-        let (mut ours, mut theirs) = (Vec::new(), Vec::new());
-        for _ in 0..ROUNDS {
-            ours.push(time(calls, || proved(&source, &mut areas)));
-            theirs.push(time(calls, || plain(&source)));
-        }
-        let (ours, theirs) = (third(ours), third(theirs));
-        let said = if answer >> 32 == 0 { format!("{} states", answer % 65_536) } else { format!("refusal {}", answer >> 32) };
-        println!("{name:<22} {ours:9.1} us; yardstick {theirs:9.1} us, ratio {:5.2} ({said})", ours / theirs);
+        measured(name, &source, &mut areas, &mut without);
+    }
+    for (name, source) in sources::machines() {
+        clocks::measured(name, source);
     }
 }
