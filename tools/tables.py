@@ -1,5 +1,6 @@
 #!/usr/bin/env python3
-# Makes crates/grammar_law/specs/Tables.antt and the tables of crates/grammar/src from the grammar in crates/language/specs. Nothing rests on it: grammar_law tests every entry, and grammar is proved against it.
+# Makes crates/grammar_law/specs/Tables.antt and the tables of crates/grammar/src from the grammar in crates/language/specs, and
+# crates/words/src/spellings.rt from its lists of words. Nothing rests on it: every entry of every table is tested where it is proved.
 import os
 import re
 
@@ -117,17 +118,22 @@ def idle(turns, row):
 
 depth = fixed(0, lambda d, p: max(calls(d, r) for r in grammar_rows[p]))
 turn = fixed(0, lambda t, p: max(idle(t, r) for r in grammar_rows[p]))
-rows, starts = [0, FIRST_PART, 0], [0] * (COLUMNS * len(parts))
-for n, p in enumerate(parts):
+rows, calls = [0, FIRST_PART, 0], {p: [] for p in parts}
+for p in parts:
     for r in grammar_rows[p]:
-        for t in begin(first, follow[p], r):
-            assert starts[n * COLUMNS + t] == 0, (p, t)
-            starts[n * COLUMNS + t] = len(rows)
+        words_before = sorted(t for _, ts in calls[p] for t in ts)
+        called_by = sorted(begin(first, follow[p], r))
+        assert not set(words_before) & set(called_by), p
+        calls[p].append((len(rows), called_by))
         rows += [byte(x) for x in r] + [0]
 
 
 def listed(values):
     return ' ∷ '.join([str(v) for v in values] + ['[]'])
+
+
+def part_calls(p):
+    return '(%s)' % listed(['(%d, %s)' % (at, listed(ts)) for at, ts in calls[p]])
 
 
 def numbers(name, comment, value):
@@ -154,22 +160,78 @@ parts = %s
 unfoldable pub rows : List ℕ
 rows = %s
 
-unfoldable pub starts : List ℕ
-starts = %s
+-- how many bytes that is, how many cells the table of starts has, and how many of them are not 0
+abbrev pub rowBytes : ℕ
+rowBytes = %d
+
+abbrev pub cellCount : ℕ
+cellCount = %d
+
+abbrev pub callCount : ℕ
+callCount = %d
+
+-- the rows of each part in order: where one begins, and the kinds of the words that call for it
+unfoldable pub calls : List (List (ℕ × List ℕ))
+calls =
+%s
 
 %s
-%s''' % (', '.join(named + ['Tier', 'Further']), listed(parts), listed(rows), listed(starts),
+%s''' % (', '.join(named + ['Tier', 'Further']), listed(parts), listed(rows), len(rows), COLUMNS * len(parts), sum(len(ts) for p in parts for _, ts in calls[p]),
+         '\n'.join('    %s%s' % ('∷ ' if i else '', part_calls(p)) for i, p in enumerate(parts)) + '\n    ∷ []',
          numbers('depth', 'how many calls deep a part goes before a level opens', depth),
          numbers('turn', 'how many turns a part takes at most before a word is read', turn))
 open(os.path.join(ROOT, 'grammar_law', 'specs', 'Tables.antt'), 'w').write(out)
 
 
-def const(module, comment, name, kind, values):
+def const(comment, name, kind, values, notes=None):
     lines = ['// ' + comment, 'pub const %s: [%s; %d] = [' % (name, kind, len(values))]
-    lines += ['    %d,' % v for v in values] + ['];']
-    open(os.path.join(ROOT, 'grammar', 'src', module + '.rt'), 'w').write('\n'.join(lines) + '\n')
+    lines += ['    %d,%s' % (v, ' // ' + notes[i] if notes and notes[i] else '') for i, v in enumerate(values)] + ['];']
+    return '\n'.join(lines) + '\n'
 
 
-const('rows', "The grammar's rows: kinds below 126, 126 opens a level, 127 closes one, parts from 128 on; a row ends at 0, and row 1 is the start. Made by tools/tables.py.", 'ROWS', 'u8', rows)
-const('starts', 'Where the row begins that a word calls for, 128 kinds to a part; 0 where there is none. Made by tools/tables.py.', 'STARTS', 'u16', starts)
-print('%d kinds, %d parts, %d bytes of rows, %d starts, depth %d, turns %d' % (len(kinds), len(parts), len(rows), len(starts), max(depth.values()), max(turn.values())))
+def source(crate, module, text):
+    open(os.path.join(ROOT, crate, 'src', module + '.rt'), 'w').write(text)
+
+
+source('grammar', 'rows', '// How many bytes the rows have.\npub const LENGTH: usize = %d;\n\n' % len(rows) + const("The grammar's rows: kinds below 126, 126 opens a level, 127 closes one, parts from 128 on; a row ends at 0, and row 1 is the start. Made by tools/tables.py.", 'ROWS', 'u8', rows))
+entries = [(n * COLUMNS + t, at, '%s: %s' % (p, (['end'] + kinds)[t])) for n, p in enumerate(parts) for at, ts in calls[p] for t in ts]
+notes = [e[2] for e in entries]
+source('grammar', 'starts', '\n'.join([
+    '// Which word calls for which row of a part. Made by tools/tables.py; what is laid out of it is proved to be the definition\'s.\n',
+    '// How many cells the table of starts has, and how many of them are not 0.\npub const CELLS: usize = %d;\n\npub const CALLS: usize = %d;\n' % (COLUMNS * len(parts), len(entries)),
+    const('128 times the number of the part, plus the kind of the word.', 'CALLED', 'u16', [e[0] for e in entries], notes),
+    const('Where the row begins that it calls for.', 'PLACES', 'u16', [e[1] for e in entries], notes)]))
+
+# ---- the spellings, for crates/words
+signs, reserved = strings(words, 'signs'), strings(words, 'reserved')
+spellings = signs + reserved
+
+
+def like(c, last, k):
+    return next((j for j in range(k, last) if spellings[j][0] == c), last)
+
+
+LOW, HIGH, LETTERS = ([chr(c) for c in range(a, b)] for a, b in ((32, 64), (64, 128), (97, 123)))
+long_signs = max(k for k, g in enumerate(signs) if g[1:]) + 1
+
+
+def first_signs(bytes):
+    firsts = [like(c, len(signs), 0) for c in bytes]
+    return 'u8', firsts, [c if k < len(signs) else '%d' % ord(c) for c, k in zip(bytes, firsts)]
+
+
+tables = [
+    "// The spellings: the signs, then the reserved words, in the language's order. Made by tools/tables.py; every entry is tested by a proof.\n",
+    "// All of them in one row.\npub const ROW: [u8; %d] =\n    *b\"%s\";\n" % (len(''.join(spellings)), ''.join(spellings)),
+    const('Where each begins in the row, and where the last one ends.', 'STARTS', 'u8', [len(''.join(spellings[:k])) for k in range(len(spellings) + 1)], spellings + ['']),
+    const('The first sign that begins with each byte from 32 to 63; %d where none does.' % len(signs), 'LOW_SIGNS', *first_signs(LOW)),
+    const('.. from 64 to 127.', 'HIGH_SIGNS', *first_signs(HIGH)),
+    '// The signs from this one on have one byte.\npub const LONG_SIGNS: usize = %d;\n' % long_signs,
+    const('The second byte of those before; 0 where there is none.', 'SECONDS', 'u8', [ord(g[1]) if g[1:] else 0 for g in signs[:long_signs]], signs),
+    const('The next sign that begins as each of them does.', 'NEXT_SIGN', 'u8', [like(g[0], len(signs), k + 1) for k, g in enumerate(signs[:long_signs])], signs),
+    const('The first reserved word that begins with each small letter; %d where none does.' % len(spellings), 'FIRST_RESERVED', 'u8', [like(c, len(spellings), len(signs)) for c in LETTERS], LETTERS),
+    const('The next reserved word that begins as each does.', 'NEXT_RESERVED', 'u8', [like(g[0], len(spellings), len(signs) + k + 1) for k, g in enumerate(reserved)], reserved),
+    const('How many bytes each reserved word has.', 'SIZES', 'u8', [len(g) for g in reserved], reserved),
+]
+source('words', 'spellings', '\n'.join(tables))
+print('%d kinds, %d parts, %d bytes of rows, %d calls, depth %d, turns %d' % (len(kinds), len(parts), len(rows), len(entries), max(depth.values()), max(turn.values())))

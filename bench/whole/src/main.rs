@@ -1,6 +1,7 @@
 //! Whole compiles and single clocks: the proved ones beside the yardstick's, in turns, on this machine, now. Nothing passes or fails by it.
 
 mod clocks;
+mod passes;
 mod rounds;
 mod sources;
 
@@ -54,7 +55,7 @@ fn plain(source: &[u8]) -> (u64, Vec<u8>) {
     }
 }
 
-/// What a compile takes in all, and how much of it goes into reading the text, the search and the file.
+/// What a compile takes in all, and how much of it goes into the words (met once in each pass), the two passes without them, the search and the file.
 fn measured(name: &str, source: &[u8], areas: &mut Areas, without: &mut Areas) {
     let (answer, file) = plain(source);
     assert_eq!(proved(source, areas), answer, "{name}");
@@ -62,12 +63,22 @@ fn measured(name: &str, source: &[u8], areas: &mut Areas, without: &mut Areas) {
     let mut whole = || proved(source, areas);
     let mut unwritten = || proved(source, without);
     let mut reading = || clocks::reading(source);
+    let mut first = || passes::first(source);
+    let mut words = || passes::words(source);
     let mut plain = || black_box(plain(source)).0;
-    let [ours, unwritten, reading, theirs] =
-        rounds::in_turns([&mut whole, &mut unwritten, &mut reading, &mut plain]).map(|seconds| seconds * 1e6);
+    let [ours, unwritten, reading, first, words, theirs] =
+        rounds::in_turns([&mut whole, &mut unwritten, &mut reading, &mut first, &mut words, &mut plain]).map(|seconds| seconds * 1e6);
     let said = if answer >> 32 == 0 { format!("{} states", answer % 65_536) } else { format!("refusal {}", answer >> 32) };
     println!("{name:<22} {ours:9.1} us; yardstick {theirs:9.1} us, ratio {:5.2} ({said})", ours / theirs);
-    println!("{:<22} reading {reading:.1}, search {:.1}, file {:.1}", "", unwritten - reading, ours - unwritten);
+    println!(
+        "{:<22} words {:.1}, first pass {:.1}, second pass {:.1}, search {:.1}, file {:.1}",
+        "",
+        2.0 * words,
+        first - words,
+        reading - first - words,
+        unwritten - reading,
+        ours - unwritten
+    );
 }
 
 fn main() {

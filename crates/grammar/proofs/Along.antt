@@ -1,6 +1,6 @@
 -- How a reader goes along the words of a text: one law for each answer of the scanner.
 -- Assumes nothing.
-use mathlib.Core.Path.{_≡_, refl, sym, _∙_, ap}
+use mathlib.Core.Path.{_≡_, refl, sym, _∙_, ap, subst}
 use mathlib.Core.List.{List, [], _∷_, map}
 use Prim.Native.Nat.{ℕ, zero, suc, _+_, _≤_, _<_}
 use native.Mathlib.Omega.{arith}
@@ -8,17 +8,20 @@ use lib.ListN.{length, getD, take, drop, length-drop, length-map, List·getD-eq-
 use lib.Seq.{drop-drop}
 use Rattle.language.specs.Words as Language
 use Rattle.language.specs.Words.{IsWord, wordAt, Words, words, refused, before, Cut, ends, skips, takes, large, strange}
-use Rattle.language.specs.Scan.{wordsFrom, wordsOf}
+use Rattle.language.specs.Scan.{nextWord, wordsOf}
 use Rattle.language.proofs.Longest.{no-empty-word}
-use Rattle.language.proofs.Cutting.{Lie, none, next, words-cut, words-lie}
-use Rattle.language.proofs.Checking.{same-words}
-use Rattle.words.specs.Meaning.{wordIn, Sound, Answers}
+use Rattle.language.proofs.Cutting.{words-cut}
+use Rattle.words.specs.Meaning.{wordIn, meaning, Sound, Holds, Answers}
+use Rattle.words.specs.Met.{Met}
+use Rattle.words.specs.declared.Stop.{Stop}
 use Rattle.words.specs.declared.Word.{Word}
 use Rattle.words.specs.declared.Next.{Next}
 use Rattle.words.specs.declared.Next.the-variants.{Found, Stops, Over}
 use Rattle.words.proofs.Only.{number-back}
-use Rattle.words.proofs.Walk.{sound, words-found, words-stop, words-over}
-use Rattle.grammar.specs.Reading.{codeOf, listed, wordsIn, codesIn, Left, Stands}
+use Rattle.words.proofs.Walk.{sound, behind-is}
+use Rattle.words.proofs.Meeting.{endMet, is-met, met-found, met-stop, met-over, met-few}
+use Rattle.ll1.proofs.Steps.{inside}
+use Rattle.grammar.specs.Reading.{codeOf, wordsIn, endsAt, codesIn, Left, Stands}
 use Rattle.grammar.specs.declared.Here.{Here}
 
 -- ---- the front of what is left of a list
@@ -36,60 +39,57 @@ module _ {A : Type 0} where
   front-inside : (l : List A) (n : ℕ) (x : A) (q : List A) → drop n l ≡ x ∷ q → n < length l
   front-inside l n x q e = omega (arith, ap length e, length-drop n l)
 
--- ---- how many words there are
-
-lie-short : {s : List ℕ} {from : ℕ} {ws : List Language.Word} → Lie s from ws → from ≤ length s → from + length ws ≤ length s
-lie-short (none b) h = omega arith
-lie-short (next {w = w} {ws = ws} g b p e t x) h = omega (arith, g, p, e, lie-short x e)
-
-words-few : (s : List ℕ) → length (wordsIn s) ≤ length s
-words-few s = go (wordsOf s) refl
-  where
-    go : (r : Words) → wordsOf s ≡ r → length (listed r) ≤ length s
-    go (words ws) e = omega (arith, lie-short (words-lie s ws e) (omega arith))
-    go (refused p) e = omega arith
-
 -- ---- the word from a place on
 
 module _ {s : List ℕ} {from n : ℕ} (h : Left s from n) {r : Next} (x : Answers s from r) where
+  said : {q : Next} → r ≡ q → nextWord s from ≡ meaning s q
+  said e = sym (x .says) ∙ ap (meaning s) e
+
   pub at-word : {w : Word} → r ≡ Found w → Stands s (record { kind = w .kind + 1; number = n; place = w .start; next = w .end })
-  at-word {w} e = go (wordsFrom s (w .end)) refl (sym (h .rest) ∙ words-found (h .fits) x e)
-    where
-      g : Sound s from w
-      g = sound x e
+  at-word {w} e =
+      let g : Sound s from w = sound x e in
+      let (vs, d, m) = met-found (h .rest) (said e) in
+      let i : n < length (wordsIn s) = front-inside (wordsIn s) n (wordIn s w) vs d in
+      record {
+        fits = omega (arith, i, length-map (wordsIn s) codeOf);
+        kind = omega (arith, number-back (w .kind) (g .known), front codeOf 0 (wordsIn s) n (wordIn s w) vs d);
+        place = sym (front (λ v. v .place) (endsAt (endMet s) (length s)) (wordsIn s) n (wordIn s w) vs d);
+        inside = omega (arith, g .some, g .inside);
+        low = λ z. omega (arith, g .some, g .inside);
+        ahead = g .inside;
+        rest = subst (λ (l : List Language.Word). Met s (w .end) l (endMet s)) (sym (ap (drop 1) d) ∙ drop-drop 1 n (wordsIn s)) (subst (λ (p : ℕ). Met s p vs (endMet s)) (behind-is g) m);
+      }
 
-      go : (q : Words) → wordsFrom s (w .end) ≡ q → words (drop n (wordsIn s)) ≡ before (wordIn s w) q → Stands s (record { kind = w .kind + 1; number = n; place = w .start; next = w .end })
-      go (words ws) f p =
-          let d : drop n (wordsIn s) ≡ wordIn s w ∷ ws = same-words (drop n (wordsIn s)) (wordIn s w ∷ ws) p in
-          let i : n < length (wordsIn s) = front-inside (wordsIn s) n (wordIn s w) ws d in
-          record {
-            fits = omega (arith, i, length-map (wordsIn s) codeOf);
-            kind = omega (arith, number-back (w .kind) (g .known), front codeOf 0 (wordsIn s) n (wordIn s w) ws d);
-            place = sym (front (λ v. v .place) (length s) (wordsIn s) n (wordIn s w) ws d);
-            inside = omega (arith, g .some, g .inside);
-            next = λ z. record { fits = g .inside; count = omega (arith, i); rest = f ∙ ap words (sym (ap (drop 1) d) ∙ drop-drop 1 n (wordsIn s)) };
-          }
-      go (refused p) f q = absurd (let z : _≡_ {A = ℕ} 0 1 = cc q in omega arith)
-
-  pub at-end : r ≡ Over → Stands s (record { kind = 0; number = n; place = length s; next = length s })
-  at-end e =
-      let d : drop n (wordsIn s) ≡ [] = same-words (drop n (wordsIn s)) [] (sym (h .rest) ∙ words-over (h .fits) x e) in
+  -- where the words end, at the end of the text or at a 4
+  ends-at : (p : ℕ) → drop n (wordsIn s) ≡ [] → endsAt (endMet s) (length s) ≡ p → p ≤ length s → Stands s (record { kind = 0; number = n; place = p; next = from })
+  ends-at p d q f =
       let i : length (wordsIn s) ≤ n = omega (arith, ap length d, length-drop n (wordsIn s), h .count) in
       record {
         fits = omega (arith, h .count, length-map (wordsIn s) codeOf);
         kind = sym (List·getD-eq-default (codesIn s) 0 (omega (arith, i, length-map (wordsIn s) codeOf)));
-        place = sym (List·getD-eq-default (map (λ v. v .place) (wordsIn s)) (length s) (omega (arith, i, length-map (wordsIn s) (λ v. v .place))));
-        inside = omega arith;
-        next = λ z. absurd (z refl);
+        place = sym (List·getD-eq-default (map (λ v. v .place) (wordsIn s)) (endsAt (endMet s) (length s)) (omega (arith, i, length-map (wordsIn s) (λ v. v .place))) ∙ q);
+        inside = f;
+        low = λ z. absurd (z refl);
+        ahead = h .fits;
+        rest = subst (λ (l : List Language.Word). Met s from l (endMet s)) (d ∙ (sym (ap (drop 1) d) ∙ drop-drop 1 n (wordsIn s))) (h .rest);
       }
 
-  -- no 4 stands there
-  pub no-stop : {A : Type 0} {p : ℕ} → r ≡ Stops p → A
-  no-stop e = let q = sym (h .rest) ∙ words-stop (h .fits) x e in absurd (let z : _≡_ {A = ℕ} 0 1 = cc q in omega arith)
+  pub at-end : r ≡ Over → Stands s (record { kind = 0; number = n; place = length s; next = from })
+  at-end e = let (d, q) = met-over (h .rest) (said e) in ends-at (length s) d (ap (λ (o : Stop). endsAt o (length s)) q) (omega arith)
 
--- a word's number is less than the text's length
-pub number-few : {s : List ℕ} {w : Here} → Stands s w → ¬ (w .kind ≡ 0) → w .number < length s
-number-few {s} {w} x n = omega (arith, words-few s, x .next n .count)
+  pub at-stop : {p : ℕ} → r ≡ Stops p → Stands s (record { kind = 0; number = n; place = p; next = from })
+  at-stop {p} e =
+      let (d, q) = met-stop (h .rest) (said e) in
+      let y : Holds s from (Stops p) = subst (Answers s from) e x .holds in
+      ends-at p d (ap (λ (o : Stop). endsAt o (length s)) q) (omega (arith, y .1))
+
+module _ {s : List ℕ} {w : Here} (x : Stands s w) (n : ¬ (w .kind ≡ 0)) where
+  -- a word has a next place, and its number is less than the text's length
+  pub next-left : Left s (w .next) (w .number + 1)
+  next-left = record { fits = x .ahead; count = omega (arith, inside (codesIn s) (w .number) (λ z. n (x .kind ∙ z)), length-map (wordsIn s) codeOf); rest = x .rest }
+
+  pub number-few : w .number < length s
+  number-few = omega (arith, next-left .count, met-few (is-met s) (omega arith))
 
 -- ---- where a 4 stands
 

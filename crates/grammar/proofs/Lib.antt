@@ -1,3 +1,4 @@
+pub mod Laid
 pub mod Codes
 pub mod Along
 pub mod Answers

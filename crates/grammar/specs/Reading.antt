@@ -9,11 +9,14 @@ use lib.ListN.{length, getD, drop}
 use Rattle.ll1.specs.Rows.{opening, closing, firstPart, startOf, row, closes, Tables, ReadTo, StopsAt}
 use Rattle.language.specs.Words as Language
 use Rattle.language.specs.Words.{Words, words, refused}
-use Rattle.language.specs.Scan.{wordsFrom, wordsOf}
-use Rattle.language.specs.Grammar.{Line, mostLevels, placeOf}
+use Rattle.language.specs.Grammar.{Line, mostLevels}
 use Rattle.language.specs.Texts.{mostBytes}
+use Rattle.words.specs.Met.{Met}
+use Rattle.words.specs.declared.Stop as scanned
+use Rattle.words.specs.declared.Stop.the-variants.{At, None}
+use Rattle.words.proofs.Meeting.{wordsMet, endMet}
 use Rattle.words.proofs.Only.{numberOf}
-use Rattle.grammar_law.specs.Tables.{depth, turn}
+use Rattle.grammar_law.specs.Tables.{rowBytes, cellCount, depth, turn}
 use Rattle.grammar_law.specs.Codes.{codes, choice}
 use Rattle.grammar.specs.declared.Here.{Here}
 use Rattle.grammar.specs.declared.Got.{Got}
@@ -29,31 +32,39 @@ abbrev pub listed : Words → List Language.Word
 listed (words ws) = ws
 listed (refused e) = []
 
+-- the words up to the end of the text, or up to its first 4
 abbrev pub wordsIn : List ℕ → List Language.Word
-wordsIn s = listed (wordsOf s)
+wordsIn s = wordsMet s
+
+-- .. and where that end stands, in a text of n bytes
+abbrev pub endsAt : scanned.Stop → ℕ → ℕ
+endsAt None n = n
+endsAt (At e) n = e
 
 -- the numbers of their kinds
 abbrev pub codesIn : List ℕ → List ℕ
 codesIn s = map codeOf (wordsIn s)
 
--- from a place on stand the words from number n on
+-- from a place on the words from number n on are met
 pub record Left (s : List ℕ) (from n : ℕ) : Type 0 where
   pub fits : from ≤ length s
   pub count : n ≤ length (wordsIn s)
-  pub rest : wordsFrom s from ≡ words (drop n (wordsIn s))
+  pub rest : Met s from (drop n (wordsIn s)) (endMet s)
 
--- a word that stands in the text, or its end
+-- a word that stands in the text, or the end of its words
 pub record Stands (s : List ℕ) (w : Here) : Type 0 where
   pub fits : w .number ≤ length (codesIn s)
   pub kind : w .kind ≡ getD (codesIn s) (w .number) 0
-  pub place : w .place ≡ placeOf s (wordsIn s) (w .number)
+  pub place : w .place ≡ getD (map (λ v. v .place) (wordsIn s)) (w .number) (endsAt (endMet s) (length s))
   pub inside : w .place ≤ length s
-  pub next : ¬ (w .kind ≡ 0) → Left s (w .next) (w .number + 1)
+  pub low : ¬ (w .kind ≡ 0) → w .place < length s
+  pub ahead : w .next ≤ length s
+  pub rest : Met s (w .next) (drop (w .number + 1) (wordsIn s)) (endMet s)
 
 -- the tables are of their lengths, p is in the rows or not far behind, and a level more can be counted
 pub record Serves (rows starts : List ℕ) (p k : ℕ) : Type 0 where
-  pub rows-fit : length rows ≤ 279
-  pub starts-fit : length starts ≤ 4352
+  pub rows-fit : length rows ≤ rowBytes
+  pub starts-fit : length starts ≤ cellCount
   pub low : ¬ (getD rows p 0 ≡ 0) → p < mostBytes
   pub few : k ≤ mostLevels
 
@@ -77,8 +88,8 @@ Turned rows starts p t k (Call q) = Calls starts (getD rows p 0) t q × (¬ (get
 
 -- the tables serve, row p closes the levels that it opens, the text is short, and the word stands in it
 pub record Ready (rows starts s : List ℕ) (p : ℕ) (w : Here) (k : ℕ) : Type 0 where
-  pub rows-fit : length rows ≤ 279
-  pub starts-fit : length starts ≤ 4352
+  pub rows-fit : length rows ≤ rowBytes
+  pub starts-fit : length starts ≤ cellCount
   pub tables : Tables codes choice depth turn rows starts
   pub closed : closes 0 (row codes rows p) ≡ true
   pub short : length s ≤ mostBytes

@@ -2,8 +2,13 @@
 ghost use mathlib.Core.Path.{_≡_};
 ghost use Rattle.ll1.specs.Rows.{row};
 ghost use Rattle.grammar_law.specs.Codes.{codes};
-ghost use Rattle.grammar.specs.Meaning.{Cleared, Says};
+ghost use Prim.Native.Nat.{_≤_};
+ghost use lib.ListN.{length};
+ghost use Rattle.language.specs.Texts.{mostBytes};
+ghost use Rattle.grammar.specs.Meaning.{Fault, Says};
 ghost use Rattle.grammar.specs.Reading.{Left, Stands, Serves, Turned, Ready, Meets};
+use table::Rows;
+use table::Starts;
 use words::Next;
 use words::Stop;
 
@@ -23,7 +28,7 @@ pub enum Checked {
     Refused { number: u32, place: u32 },
 }
 
-// The word to be read next: its kind's number (0 at the end of the text), how many words stand before it, its place, and the place behind it.
+// The word to be read next: its kind's number (0 where the words end), how many words stand before it, its place, and the place behind it.
 struct Here {
     kind: u8,
     number: usize,
@@ -48,7 +53,7 @@ enum Turn {
     Call(usize),
 }
 
-// The word from a place on, of a text that is all words.
+// The word from a place on, or kind 0 where the words end: at the text's end, or at a 4.
 fn word_from(s: &[u8], from: usize, number: usize) -> Here
     requires { ⌜ Left (now s) from number ⌝ }
     ensures { λ r. ⌜ Stands (now (s .entry)) r × (r .number ≡ number) ⌝ }
@@ -67,7 +72,7 @@ fn word_from(s: &[u8], from: usize, number: usize) -> Here
                 kind: 0,
                 number,
                 place: e,
-                next: e,
+                next: from,
             };
         }
         Next::Over => {
@@ -75,14 +80,14 @@ fn word_from(s: &[u8], from: usize, number: usize) -> Here
                 kind: 0,
                 number,
                 place: s.len(),
-                next: s.len(),
+                next: from,
             };
         }
     }
 }
 
 // What the symbol at p of the rows calls for, before a word of this kind, with k levels left.
-fn next_turn(rows: &[u8; 279], starts: &[u16; 4352], p: usize, kind: u8, k: u8) -> Turn
+fn next_turn(rows: &Rows, starts: &Starts, p: usize, kind: u8, k: u8) -> Turn
     requires { ⌜ Serves (now rows) (now starts) p k ⌝ }
     ensures { λ r. ⌜ Turned (now (rows .entry)) (now (starts .entry)) p kind k r ⌝ }
 {
@@ -118,7 +123,7 @@ fn next_turn(rows: &[u8; 279], starts: &[u16; 4352], p: usize, kind: u8, k: u8) 
 // Reads the row at a place from the word `first` on, with so many levels left. Its stack is bounded: a row's last part is read in the same call,
 // so 16 * levels + the calls that the row needs before a level opens falls with each call. The start has 16 * 32 + 7: 520 calls at most stand
 // open, of 240 bytes on x86-64.
-fn read(rows: &[u8; 279], starts: &[u16; 4352], s: &[u8], at: usize, first: Here, levels: u8) -> Got
+fn read(rows: &Rows, starts: &Starts, s: &[u8], at: usize, first: Here, levels: u8) -> Got
     requires { ⌜ Ready (now rows) (now starts) (now s) at first levels ⌝ }
     ensures { λ r. ⌜ Meets (row codes (now (rows .entry)) at) (now (s .entry)) first levels r ⌝ }
 {
@@ -157,29 +162,44 @@ fn read(rows: &[u8; 279], starts: &[u16; 4352], s: &[u8], at: usize, first: Here
     }
 }
 
-// Refusal 5, of a text that is all words.
+// The refusal of a text with fault 5 at a place: a 4 wins, and it can only stand from `next` on.
+fn refusal(text: &[u8], place: usize, next: usize) -> Checked
+    requires { ⌜ Fault (now text) place next ⌝ }
+    ensures { λ r. ⌜ Says (now (text .entry)) r ⌝ }
+{
+    match words::stop_from(text, next) {
+        Stop::At(e) => {
+            return Checked::Refused {
+                number: 4,
+                place: e as u32,
+            };
+        }
+        Stop::None => {
+            return Checked::Refused {
+                number: 5,
+                place: place as u32,
+            };
+        }
+    }
+}
+
+// Refusals 4 and 5: the words are met once, up to the first of them.
 fn read_all(text: &[u8]) -> Checked
-    requires { ⌜ Cleared (now text) ⌝ }
+    requires { ⌜ length (now text) ≤ mostBytes ⌝ }
     ensures { λ r. ⌜ Says (now (text .entry)) r ⌝ }
 {
     let rows = rows::ROWS;
-    let starts = starts::STARTS;
+    let starts = table::laid_out();
     let first = word_from(text, 0, 0);
     let g = read(&rows, &starts, text, 1, first, MOST_LEVELS);
     let w = g.word;
     if g.ok {
-        if w.kind == 0 {
+        if w.place == text.len() {
             return Checked::Grammatical;
         }
-        return Checked::Refused {
-            number: 5,
-            place: w.place as u32,
-        };
+        return refusal(text, w.place, w.next);
     }
-    Checked::Refused {
-        number: 5,
-        place: w.place as u32,
-    }
+    refusal(text, w.place, w.next)
 }
 
 // Whether any text is a program: 3 for more than 8,192 bytes, a 4 anywhere before any 5.
@@ -192,13 +212,5 @@ pub fn check(text: &[u8]) -> Checked
             place: 0,
         };
     }
-    match words::first_stop(text) {
-        Stop::At(e) => {
-            return Checked::Refused {
-                number: 4,
-                place: e as u32,
-            };
-        }
-        Stop::None => return read_all(text),
-    }
+    read_all(text)
 }

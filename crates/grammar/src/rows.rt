@@ -1,3 +1,6 @@
+// How many bytes the rows have.
+pub const LENGTH: usize = 279;
+
 // The grammar's rows: kinds below 126, 126 opens a level, 127 closes one, parts from 128 on; a row ends at 0, and row 1 is the start. Made by tools/tables.py.
 pub const ROWS: [u8; 279] = [
     0,

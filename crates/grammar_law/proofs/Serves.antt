@@ -17,7 +17,8 @@ use Rattle.language.specs.Grammar.{Part, binding, csml, wholeProgram}
 use Rattle.language.proofs.EveryPart.{every-part}
 use Rattle.language.proofs.Numbered.{kind-high}
 use Rattle.language.proofs.Claims.{claims, first, empty, follow}
-use Rattle.grammar_law.specs.Tables.{parts, rows, starts, depth, turn}
+use Rattle.grammar_law.specs.Tables.{parts, rows, calls, depth, turn}
+use Rattle.grammar_law.specs.Starts.{among, called, across, laid, starts}
 use Rattle.grammar_law.specs.Codes.{partAt, codes, choice}
 use Rattle.grammar_law.proofs.Parts.{samePart, part-true}
 
@@ -54,7 +55,7 @@ far n t h = ap (λ k. pick claims n (some k) 0 (csml n)) (kind-high t (omega ari
 -- ---- the tests
 
 how-many : length starts ≡ length parts * columns
-unfolding starts parts
+unfolding starts laid across called among calls parts
 how-many = refl
 
 short : leb (length rows) mostBytes ≡ true
@@ -74,7 +75,7 @@ unfolding every inRange rows parts codes
 all-bytes = refl
 
 all-entries : every (entry claims csml samePart codes depth turn rows) 0 starts ≡ true
-unfolding every entry lastAt keptAt agrees sameRow sameSymbol samePart partAt kindAt symOf rowOf closes larger deep idle depth turn codes has beginRow pick csml claims first empty follow rows starts
+unfolding every entry lastAt keptAt agrees sameRow sameSymbol samePart partAt kindAt symOf rowOf closes larger deep idle depth turn codes has beginRow pick csml claims first empty follow rows starts laid across called among calls
 all-entries = refl
 
 pub tables : Tables codes choice depth turn rows starts

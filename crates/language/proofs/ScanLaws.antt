@@ -1,16 +1,15 @@
 -- The laws by which code meets the scan: one for each outcome, in the terms of code (a text s, places in it, i + 1).
 -- Assumes nothing.
 use mathlib.Core.Bool.{Bool, true, false, cond}
-use mathlib.Core.Path.{_≡_, refl, sym, _∙_, ap}
+use mathlib.Core.Path.{_≡_, refl}
 use mathlib.Core.List.{List, [], _∷_}
-use Prim.Native.Nat.{ℕ, zero, suc, _+_, _-_, _*_, _≤_, _<_, min}
+use Prim.Native.Nat.{ℕ, zero, suc, _+_, _≤_, _<_}
 use native.Mathlib.Numerals.{add-one}
 use native.Mathlib.Omega.{arith}
 use lib.ListN.{length, getD, take, drop, length-drop}
 use lib.Dec.{eqb}
-use lib.Seq.{slice, slice-cons, slice-empty}
 use borrow.Author.Tests.{ne-eqb}
-use Rattle.language.specs.Words.{letter, digit, inName, inNumber, signs, firstOf, kindOf, largestNumber, valueFrom, tooLarge, wordAt}
+use Rattle.language.specs.Words.{letter, digit, inName, inNumber, signs, firstOf, kindOf, tooLarge, wordAt}
 use Rattle.language.specs.Scan.{span, begins, lengthOf, wordLength, found, stops, over, nextAt}
 use Rattle.language.proofs.Runs.{span-fits}
 
@@ -36,6 +35,10 @@ module _ (goesOn : ℕ → ℕ → Bool) where
   span-end (c ∷ s) zero h = absurd (omega arith)
   span-end (c ∷ s) (suc i) h = span-end s i (omega arith)
 
+  -- where a run goes on it has a byte
+  pub span-some : (s : List ℕ) (i : ℕ) → i < length s → goesOn (getD s i 0) (getD s (suc i) 0) ≡ true → 0 < span goesOn (drop i s)
+  span-some s i h e = omega (arith, span-yes s i h e)
+
   pub run-on : (s : List ℕ) (i e : ℕ) → i < length s → goesOn (getD s i 0) (getD s (i + 1) 0) ≡ true → i + span goesOn (drop i s) ≡ e → i + 1 + span goesOn (drop (i + 1) s) ≡ e
   run-on s i e h t f = simp add-one (omega (arith, span-yes s i h (rw add-one at t)))
 
@@ -50,13 +53,13 @@ module _ (goesOn : ℕ → ℕ → Bool) where
 
 -- ---- the word at a place
 
-module _ (s : List ℕ) (at : ℕ) where
-  first-byte : (l : List ℕ) (i : ℕ) → getD (drop i l) 0 0 ≡ getD l i 0
-  first-byte [] zero = refl
-  first-byte [] (suc i) = refl
-  first-byte (c ∷ l) zero = refl
-  first-byte (c ∷ l) (suc i) = first-byte l i
+pub first-byte : (s : List ℕ) (i : ℕ) → getD (drop i s) 0 0 ≡ getD s i 0
+first-byte [] zero = refl
+first-byte [] (suc i) = refl
+first-byte (c ∷ s) zero = refl
+first-byte (c ∷ s) (suc i) = first-byte s i
 
+module _ (s : List ℕ) (at : ℕ) where
   pub name-length : letter (getD s at 0) ≡ true → wordLength (drop at s) ≡ span inName (drop at s)
   unfolding wordLength
   name-length e = rw (first-byte s at, e)
@@ -97,25 +100,3 @@ module _ (s : List ℕ) (at : ℕ) where
 
       pub next-found : tooLarge (kindOf (take n (drop at s))) (take n (drop at s)) ≡ false → nextAt at (drop at s) ≡ found (wordAt at (take n (drop at s)))
       next-found f = next-here (drop at s) left n e false false (ne-eqb n 0 some) f
-
--- ---- the value of a number, where a loop counts no further than the largest and one
-
-abbrev pub capped : ℕ → ℕ
-capped v = min v (largestNumber + 1)
-
-value-capped : (w : List ℕ) (v : ℕ) → capped (valueFrom (capped v) w) ≡ capped (valueFrom v w)
-unfolding valueFrom
-value-capped [] v = omega arith
-value-capped (c ∷ w) v =
-    let same : capped (capped v * 10 + (c - 48)) ≡ capped (v * 10 + (c - 48)) = omega arith in
-    sym (value-capped w (capped v * 10 + (c - 48))) ∙ ap (λ (x : ℕ). capped (valueFrom x w)) same ∙ value-capped w (v * 10 + (c - 48))
-
-pub value-on : (s : List ℕ) (i e v u n : ℕ) → i < e → e ≤ length s → u ≡ capped (v * 10 + (getD s i 0 - 48)) → capped (valueFrom v (slice i e s)) ≡ n → capped (valueFrom u (slice (i + 1) e s)) ≡ n
-unfolding valueFrom
-value-on s i e v u n h l q f = rw (q, add-one i) (value-capped (slice (suc i) e s) (v * 10 + (getD s i 0 - 48)) ∙ (rw (slice-cons i e s 0 h l) at f))
-
-pub value-over : (s : List ℕ) (i e v n : ℕ) → i ≡ e → v ≤ largestNumber + 1 → capped (valueFrom v (slice i e s)) ≡ n → v ≡ n
-unfolding valueFrom
-value-over s i e v n h k f =
-    let g : capped v ≡ n = rw (h, slice-empty) at f in
-    omega arith

@@ -13,6 +13,7 @@ use borrow.Author.Tests.{lt-ltb}
 use Rattle.file_law.specs.Answer.{firstNot}
 use Rattle.language.specs.Words.{bytes, letter, digit, signs, reserved, Among, firstOf, spelled, kindOf, tooLarge, the}
 use Rattle.language.specs.Scan.{begins, lengthOf, wordLength}
+use Rattle.language.proofs.ScanLaws.{sign-length}
 use Rattle.language.proofs.Signs.{taken, fits, sign-plain}
 use Rattle.words.specs.Kinds.{spelling, signCount}
 use Rattle.words.specs.Runs.{part}
@@ -21,7 +22,7 @@ use Rattle.words.specs.Meaning.{Stands}
 use Rattle.words.specs.declared.Next.the-variants.{Found, Stops}
 use Rattle.words.proofs.First.{nth, nth-some, nth-none, first-number, first-passes, first-same}
 use Rattle.words.proofs.Counted.{signs-length, sign-at, numbered-spelled}
-use Rattle.words.proofs.Outcomes.{front, no-word, word-here}
+use Rattle.words.proofs.Outcomes.{no-word, word-here}
 
 among : (ss : List String) (k : ℕ) → k < length ss → Among (getD ss k "") ss
 among [] k h = absurd (omega arith)
@@ -42,8 +43,7 @@ module _ (s : List ℕ) (at : ℕ) (h : at < length s) (l : letter (getD s at 0)
       ∙ ap (nth signs) (omega (arith, ap (λ (n : ℕ). firstNot (missesAt s at at) n 0) signs-length, r))
 
   long : wordLength (drop at s) ≡ lengthOf (nth signs k)
-  unfolding wordLength
-  long = rw (front s at h, l, d) (ap lengthOf first)
+  long = sign-length s at l d ∙ ap lengthOf first
 
   pub no-sign : signCount ≤ k → Stands s at (Stops at)
   unfolding lengthOf

@@ -2,12 +2,13 @@
 -- Assumes nothing.
 use mathlib.Core.Path.{_≡_, refl, sym, _∙_, ap, subst}
 use mathlib.Core.List.{List, []}
-use Prim.Native.Nat.{ℕ, _≤_}
+use Prim.Native.Nat.{ℕ, _+_, _≤_}
 use native.Mathlib.Omega.{arith}
-use lib.ListN.{length}
-use Rattle.language.specs.Words.{Words, words, refused, before}
+use lib.ListN.{length, drop}
+use Rattle.language.specs.Words.{inBlanks, Words, words, refused, before}
 use Rattle.language.specs.Scan as Scan
-use Rattle.language.specs.Scan.{found, stops, over, behind, follow, wordsFrom}
+use Rattle.language.specs.Scan.{span, found, stops, over, pastBlanks, nextWord, behind, follow, wordsUpTo, wordsFrom}
+use Rattle.language.proofs.ScanLaws.{next-over}
 use Rattle.language.proofs.Cutting.{words-step}
 use Rattle.words.specs.Meaning.{wordIn, meaning, Sound, Answers, stopOf}
 use Rattle.words.specs.declared.Word.{Word}
@@ -41,6 +42,10 @@ module _ {s : List ℕ} {from : ℕ} {r : Next} (h : from ≤ length s) (x : Ans
   words-over e = goes over (ap (meaning s) e)
 
 -- ---- to the first refusal
+
+pub stop-past : (s : List ℕ) (from : ℕ) → length s ≤ from → None ≡ stopOf (wordsFrom s from)
+unfolding wordsFrom wordsUpTo follow nextWord pastBlanks
+stop-past s from h = rw (next-over s (from + span inBlanks (drop from s)) (omega arith))
 
 module _ {s : List ℕ} {from : ℕ} {r : Next} {n : Stop} (h : from ≤ length s) (i : stopOf (wordsFrom s from) ≡ n) (x : Answers s from r) where
   pub stop-later : {w : Word} → r ≡ Found w → stopOf (wordsFrom s (w .end)) ≡ n

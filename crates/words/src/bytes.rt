@@ -1,10 +1,10 @@
-// What a byte is: a blank, a letter, a digit, and whether a run of bytes goes on with it.
+// What a byte is: a blank, a letter, a digit, and whether a name goes on with it.
 ghost use mathlib.Core.Path.{_≡_};
-ghost use lib.ListN.{getD};
+ghost use Prim.Native.Nat.{_+_, _<_};
+ghost use lib.ListN.{length, getD};
 ghost use Rattle.language.specs.Words.{blank, letter, digit, inName};
-ghost use Rattle.words.specs.Runs.{goesOn};
 
-fn is_blank(c: u8) -> bool
+pub fn is_blank(c: u8) -> bool
     ensures { λ r. ⌜ r ≡ blank c ⌝ }
 {
     if c == b' ' {
@@ -43,10 +43,22 @@ pub fn is_digit(c: u8) -> bool
     c <= b'9'
 }
 
-// Whether a name goes on with c, where d follows.
-fn in_name(c: u8, d: u8) -> bool
-    ensures { λ r. ⌜ r ≡ inName c d ⌝ }
+// The byte at i, or 0 where there is none.
+pub fn byte_at(s: &[u8], i: usize) -> u8
+    ensures { λ r. ⌜ r ≡ getD (now (s .entry)) i 0 ⌝ }
 {
+    if i < s.len() {
+        return s[i];
+    }
+    0
+}
+
+// Whether a name goes on at i.
+pub fn in_name(s: &[u8], i: usize) -> bool
+    requires { ⌜ i < length (now s) ⌝ }
+    ensures { λ r. ⌜ r ≡ inName (getD (now (s .entry)) i 0) (getD (now (s .entry)) (i + 1) 0) ⌝ }
+{
+    let c = s[i];
     if is_letter(c) {
         return true;
     }
@@ -57,6 +69,7 @@ fn in_name(c: u8, d: u8) -> bool
         return true;
     }
     if c == b'-' {
+        let d = byte_at(s, i + 1);
         if is_letter(d) {
             return true;
         }
@@ -65,25 +78,9 @@ fn in_name(c: u8, d: u8) -> bool
     false
 }
 
-// Whether a run goes on with c, where d follows: 0 blanks, 1 a number, 2 a name.
-pub fn goes_on(run: u8, c: u8, d: u8) -> bool
-    ensures { λ r. ⌜ r ≡ goesOn run c d ⌝ }
+// A byte of a table as an index.
+pub fn wide(x: u8) -> usize
+    ensures { λ r. ⌜ r ≡ x ⌝ }
 {
-    if run == 0 {
-        return is_blank(c);
-    }
-    if run == 1 {
-        return is_digit(c);
-    }
-    in_name(c, d)
-}
-
-// The byte at i, or 0 where there is none.
-pub fn byte_at(s: &[u8], i: usize) -> u8
-    ensures { λ r. ⌜ r ≡ getD (now (s .entry)) i 0 ⌝ }
-{
-    if i < s.len() {
-        return s[i];
-    }
-    0
+    x as usize
 }

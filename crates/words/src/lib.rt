@@ -4,15 +4,14 @@ ghost use mathlib.Core.Bool.{true, false};
 ghost use Prim.Native.Nat.{_<_};
 ghost use lib.ListN.{length, getD};
 ghost use Rattle.language.specs.Words.{letter, digit, same};
-ghost use Rattle.language.specs.Scan.{wordsOf};
+ghost use Rattle.language.specs.Scan.{wordsFrom, wordsOf};
 ghost use Rattle.words.specs.Runs.{part};
-ghost use Rattle.words.specs.Search.{Table};
 ghost use Rattle.words.specs.Meaning.{Stands, Answers, stopOf};
 
 mod bytes;
 pub mod kinds;
 mod scan;
-mod starts;
+mod spellings;
 mod table;
 
 // A word: its kind by number (`kinds`), its place, the place behind it, and a number's value.
@@ -37,12 +36,12 @@ pub enum Stop {
 }
 
 // The reserved word or the name that starts at a place.
-fn name_at(row: &[u8], starts: &[u8; 62], s: &[u8], at: usize) -> Next
-    requires { ⌜ Table (now row) (now starts) × (at < length (now s)) × (letter (getD (now s) at 0) ≡ true) ⌝ }
+fn name_at(s: &[u8], at: usize) -> Next
+    requires { ⌜ (at < length (now s)) × (letter (getD (now s) at 0) ≡ true) ⌝ }
     ensures { λ r. ⌜ Stands (now (s .entry)) at r ⌝ }
 {
-    let end = scan::run_end(s, at, 2);
-    let k = table::first_fit(row, starts, s, at, end, table::SIGNS, table::SPELLINGS);
+    let end = scan::name_end(s, at);
+    let k = table::reserved(s, at, end);
     if k < table::SPELLINGS {
         return Next::Found(Word {
             kind: 2 + k as u8,
@@ -67,7 +66,7 @@ fn number_at(s: &[u8], at: usize) -> Next
     requires { ⌜ (at < length (now s)) × (letter (getD (now s) at 0) ≡ false) × (digit (getD (now s) at 0) ≡ true) ⌝ }
     ensures { λ r. ⌜ Stands (now (s .entry)) at r ⌝ }
 {
-    let end = scan::run_end(s, at, 1);
+    let end = scan::number_end(s, at);
     let value = scan::value(s, at, end);
     if value <= 65535 {
         return Next::Found(Word {
@@ -81,18 +80,16 @@ fn number_at(s: &[u8], at: usize) -> Next
 }
 
 // The sign that starts at a place.
-fn sign_at(row: &[u8], starts: &[u8; 62], s: &[u8], at: usize) -> Next
-    requires { ⌜ Table (now row) (now starts) × (at < length (now s)) × (letter (getD (now s) at 0) ≡ false) × (digit (getD (now s) at 0) ≡ false) ⌝ }
+fn sign_at(s: &[u8], at: usize) -> Next
+    requires { ⌜ (at < length (now s)) × (letter (getD (now s) at 0) ≡ false) × (digit (getD (now s) at 0) ≡ false) ⌝ }
     ensures { λ r. ⌜ Stands (now (s .entry)) at r ⌝ }
 {
-    let k = table::first_fit(row, starts, s, at, at, 0, table::SIGNS);
+    let k = table::sign(s, at);
     if k < table::SIGNS {
-        let b = starts[k] as usize;
-        let f = starts[k + 1] as usize;
         return Next::Found(Word {
             kind: 2 + k as u8,
             start: at,
-            end: at + (f - b),
+            end: at + table::sign_length(k),
             value: 0,
         });
     }
@@ -100,8 +97,7 @@ fn sign_at(row: &[u8], starts: &[u8; 62], s: &[u8], at: usize) -> Next
 }
 
 // The word that starts at a place.
-fn word_at(row: &[u8], starts: &[u8; 62], s: &[u8], at: usize) -> Next
-    requires { ⌜ Table (now row) (now starts) ⌝ }
+fn word_at(s: &[u8], at: usize) -> Next
     ensures { λ r. ⌜ Stands (now (s .entry)) at r ⌝ }
 {
     if s.len() <= at {
@@ -109,29 +105,29 @@ fn word_at(row: &[u8], starts: &[u8; 62], s: &[u8], at: usize) -> Next
     }
     let c = s[at];
     if bytes::is_letter(c) {
-        return name_at(row, starts, s, at);
+        return name_at(s, at);
     }
     if bytes::is_digit(c) {
         return number_at(s, at);
     }
-    sign_at(row, starts, s, at)
+    sign_at(s, at)
 }
 
 // The next word from a place on: for any bytes and any place.
 pub fn next_word(s: &[u8], from: usize) -> Next
     ensures { λ r. ⌜ Answers (now (s .entry)) from r ⌝ }
 {
-    // The copies are made once a word: an index into a constant itself would copy it at every step of the search.
-    let row = starts::ROW;
-    let starts = starts::STARTS;
-    word_at(&row, &starts, s, scan::run_end(s, from, 0))
+    word_at(s, scan::past_blanks(s, from))
 }
 
-// The place of refusal 4 in the whole text.
-pub fn first_stop(s: &[u8]) -> Stop
-    ensures { λ r. ⌜ r ≡ stopOf (wordsOf (now (s .entry))) ⌝ }
+// The place of refusal 4 from a place on: for any bytes and any place.
+pub fn stop_from(s: &[u8], place: usize) -> Stop
+    ensures { λ r. ⌜ r ≡ stopOf (wordsFrom (now (s .entry)) place) ⌝ }
 {
-    let mut from: usize = 0;
+    if s.len() < place {
+        return Stop::None;
+    }
+    let mut from = place;
     loop {
         match next_word(s, from) {
             Next::Found(w) => {
@@ -142,6 +138,13 @@ pub fn first_stop(s: &[u8]) -> Stop
             Next::Over => return Stop::None,
         }
     }
+}
+
+// The place of refusal 4 in the whole text.
+pub fn first_stop(s: &[u8]) -> Stop
+    ensures { λ r. ⌜ r ≡ stopOf (wordsOf (now (s .entry))) ⌝ }
+{
+    stop_from(s, 0)
 }
 
 // Whether two parts of a text, from a to b and from c to d, are the same bytes: for any numbers.

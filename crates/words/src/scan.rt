@@ -2,18 +2,46 @@
 ghost use mathlib.Core.Path.{_≡_};
 ghost use Prim.Native.Nat.{_+_, _-_, _*_, _<_, _≤_, min};
 ghost use lib.ListN.{length, drop};
-ghost use Rattle.language.specs.Words.{valueOf};
+ghost use Rattle.language.specs.Words.{inBlanks, inNumber, inName, valueOf};
 ghost use Rattle.language.specs.Scan.{begins};
 ghost use Rattle.words.specs.Runs.{part, runEnd, cap};
 use crate::bytes;
 
-// The end of the run that starts at from: 0 blanks, 1 a number, 2 a name.
-pub fn run_end(s: &[u8], from: usize, run: u8) -> usize
-    ensures { λ r. ⌜ r ≡ runEnd (now (s .entry)) from run ⌝ }
+// The place behind the blanks from a place on.
+pub fn past_blanks(s: &[u8], from: usize) -> usize
+    ensures { λ r. ⌜ r ≡ runEnd inBlanks (now (s .entry)) from ⌝ }
 {
     let mut i = from;
     while i < s.len() {
-        if !bytes::goes_on(run, bytes::byte_at(s, i), bytes::byte_at(s, i + 1)) {
+        if !bytes::is_blank(s[i]) {
+            return i;
+        }
+        i += 1;
+    }
+    i
+}
+
+// The end of the digits from a place on.
+pub fn number_end(s: &[u8], from: usize) -> usize
+    ensures { λ r. ⌜ r ≡ runEnd inNumber (now (s .entry)) from ⌝ }
+{
+    let mut i = from;
+    while i < s.len() {
+        if !bytes::is_digit(s[i]) {
+            return i;
+        }
+        i += 1;
+    }
+    i
+}
+
+// The end of the name, or the reserved word, that goes on from a place.
+pub fn name_end(s: &[u8], from: usize) -> usize
+    ensures { λ r. ⌜ r ≡ runEnd inName (now (s .entry)) from ⌝ }
+{
+    let mut i = from;
+    while i < s.len() {
+        if !bytes::in_name(s, i) {
             return i;
         }
         i += 1;

@@ -15,7 +15,7 @@ use Rattle.language.specs.Grammar.{mostLevels}
 use Rattle.grammar_law.specs.Tables.{depth, turn}
 use Rattle.grammar_law.specs.Codes.{codes, choice}
 use Rattle.grammar.specs.Reading.{codesIn, Stands}
-use Rattle.grammar.proofs.Along.{number-few}
+use Rattle.grammar.proofs.Along.{next-left, number-few}
 use Rattle.grammar.proofs.Answers.{is-read, is-stopped, said-stopped}
 use Rattle.grammar.proofs.Turning.{low, ends, stops, word-here, word-low, word-on, word-falls, level-low, level-on, level-falls, last-on, last-falls, call-low, call-closed, call-falls, call-stopped, call-on, call-on-falls}
 use Rattle.grammar.proofs.read.Reads as read
@@ -96,7 +96,7 @@ word-from-requires : (t : ℕ) → read-lts.Need-word-from-requires (calls t) (r
 word-from-requires t c κs =
     let n = c .before .before .before in
     let l = n .before in
-    l .loop .inv .1 .next (word-here (here t l) (l .loop .inv .1 .kind) (n .next-turn .ensures) (c .before .enum-told3 .given .1))
+    next-left (l .loop .inv .1) (word-here (here t l) (l .loop .inv .1 .kind) (n .next-turn .ensures) (c .before .enum-told3 .given .1))
 
 add-p : (t : ℕ) → read-lts.Need-add-p (calls t) (read-at t) read.Post inv μ-loop
 add-p t c =

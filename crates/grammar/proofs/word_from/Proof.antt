@@ -4,7 +4,7 @@ use mathlib.Core.Path.{refl}
 use native.Mathlib.Omega.{arith}
 use borrow.Author.Needs.{needs}
 use Rattle.words.proofs.Walk.{sound}
-use Rattle.grammar.proofs.Along.{at-word, at-end, no-stop}
+use Rattle.grammar.proofs.Along.{at-word, at-end, at-stop}
 use Rattle.grammar.proofs.word_from.Statement.{statement}
 use Rattle.grammar.proofs.word_from.Tie as tie
 
@@ -30,7 +30,7 @@ enum-known-e c = search needs
 returns-2 : tie.Need-returns-2
 returns-2 c =
     let n = c .before .before .before in
-    no-stop (n .before .before .pre) (n .next-word .ensures) (c .before .e .given .1)
+    (at-stop (n .before .before .pre) (n .next-word .ensures) (c .before .e .given .1), refl)
 
 enum-told : tie.Need-enum-told
 enum-told c = search needs

@@ -9,7 +9,7 @@ use Rattle.words.proofs.word_at.Tie as tie
 
 returns : tie.Need-returns
 returns c =
-    let a = c .before .before .before .args in
+    let a = c .before .before .args in
     all-over (a .s .now) (a .at) (c .if1 .taken)
 
 shared-slice-read-c : tie.Need-shared-slice-read-c
@@ -20,8 +20,7 @@ is-letter-requires c κs = search needs
 
 name-at-requires : tie.Need-name-at-requires
 name-at-requires c κs =
-    let o = c .before .before .before .before .before .before in
-    (o .pre, omega arith, sym (c .before .is-letter .ensures) ∙ c .if2 .taken)
+    (omega arith, sym (c .before .is-letter .ensures) ∙ c .if2 .taken)
 
 returns-2 : tie.Need-returns-2
 returns-2 c = search needs
@@ -39,9 +38,8 @@ returns-3 c = search needs
 
 sign-at-requires : tie.Need-sign-at-requires
 sign-at-requires c κs =
-    let o = c .before .before .before .before .before .before .before .before in
     let l = c .before .before in
-    (o .pre, omega arith, sym (l .before .is-letter .ensures) ∙ l .if2 .left, sym (c .before .is-digit .ensures) ∙ c .if3 .left)
+    (omega arith, sym (l .before .is-letter .ensures) ∙ l .if2 .left, sym (c .before .is-digit .ensures) ∙ c .if3 .left)
 
 returns-4 : tie.Need-returns-4
 returns-4 c = search needs

@@ -1,0 +1,29 @@
+-- `words::table::stands` meets its contract: the row and its starts pass their test.
+-- Assumes nothing.
+use mathlib.Core.Path.{refl}
+use borrow.Author.Needs.{needs}
+use Rattle.file_law.specs.Answer.{every}
+use Rattle.language.specs.Words.{bytes, signs, reserved, same}
+use Rattle.words.specs.Kinds.{spellings, spelling}
+use Rattle.words.specs.Runs.{part}
+use Rattle.words.proofs.Tested.{tested}
+use Rattle.words.proofs.table.stands.Statement.{statement}
+use Rattle.words.proofs.table.stands.Tie as tie
+
+slice-aggregate-stands-in : tie.Need-slice-aggregate-stands-in
+slice-aggregate-stands-in c = search needs
+
+stands-in-requires : tie.Need-stands-in-requires
+unfolding every bytes signs reserved same spellings spelling part
+stands-in-requires c κs = (tested _ _ refl refl, c .before .before .before .pre)
+
+returns : tie.Need-returns
+returns c = search needs
+
+pub stands-spec : {M : Type 1} → statement M
+stands-spec =
+    tie.close
+    (tie.spec
+    slice-aggregate-stands-in
+    stands-in-requires
+    returns)
