@@ -1,4 +1,4 @@
--- No second answer, work area or file buffer satisfies the promise of compile, nor of its form for C.
+-- No second answer, work area or file buffer satisfies the promise of compile, nor of its form for C, whose number tells the answer.
 -- Assumes nothing.
 use mathlib.Core.Path.{_≡_, sym, ap, ap₂, _∙_}
 use mathlib.Core.List.{List}
@@ -8,7 +8,9 @@ use Rattle.file_law.proofs.Answers.{same}
 use Rattle.language.specs.Promise.{Made, Lent, Ended, Compiles}
 use Rattle.language.proofs.OneAnswer.{one-answer}
 use Rattle.compiler.specs.Answered.{meaning, ended}
-use Rattle.compiler.specs.Code.{codeOf, Coded}
+use Rattle.code_law.specs.Code.{codeOf}
+use Rattle.code_law.proofs.Compile as told
+use Rattle.compiler.specs.Code.{Coded}
 use Rattle.compiler.specs.declared.Compiled.{Compiled}
 use Rattle.compiler.specs.declared.Compiled.the-variants as compiled
 
@@ -29,3 +31,7 @@ module _ (l : Lent) {work other buffer another : List ℕ} where
   code-only c d =
       let e = one-answer (c .compiles) (d .compiles) in
       (c .is ∙ ap codeOf (ap (λ (x : Ended). x .answer) e) ∙ sym (d .is), ap (λ (x : Ended). x .work) e, ap (λ (x : Ended). x .buffer) e)
+
+-- the number that C gets tells the answer, whatever was lent
+pub code-read : {l k : Lent} {r : ℕ} {work other buffer another : List ℕ} (c : Coded l r work buffer) (d : Coded k r other another) → c .answer ≡ d .answer
+code-read c d = told.code-read (c .compiles) (d .compiles) (sym (c .is) ∙ d .is)

@@ -22,10 +22,10 @@ use denote.Triple.Statement.{Contract}
 use denote.Triple.Spec.{tripleOf}
 use denote.Triple.Clauses.{ensured, lasts}
 use Rattle.file_law.specs.Stepping.{after}
-use Rattle.stepper.specs.Meaning.{meaning}
-use Rattle.stepper.specs.declared.Stands.{Stands}
-use Rattle.stepper.proofs.Stands as S
-use Rattle.stepper.proofs.Stands.Laws as S′
+use Rattle.moves.specs.Meaning.{meaning}
+use Rattle.moves.specs.declared.Stands.{Stands}
+use Rattle.moves.proofs.Stands as S
+use Rattle.moves.proofs.Stands.Laws as S′
 use Rattle.controller.specs.Record.{running}
 use Rattle.controller.specs.declared.Controller.{Controller}
 use Rattle.controller.proofs.Controller as T

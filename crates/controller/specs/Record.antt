@@ -4,8 +4,8 @@ use mathlib.Core.Path.{_≡_}
 use Rattle.file_law.specs.Answer.{Answer}
 use Rattle.file_law.specs.Table.{Running}
 use Rattle.file_law.specs.Stepping.{after}
-use Rattle.stepper.specs.Meaning.{meaning}
-use Rattle.stepper.specs.declared.Stands.{Stands}
+use Rattle.moves.specs.Meaning.{meaning}
+use Rattle.moves.specs.declared.Stands.{Stands}
 use Rattle.controller.specs.declared.Controller.{Controller}
 
 -- "one small record changed in place: state number and present outputs"

@@ -1,9 +1,9 @@
 // The running controller: one small record, changed in place.
 ghost use mathlib.Core.Path.{_≡_};
 ghost use Rattle.file_law.specs.Stepping.{stepAnswer, startAnswer, after};
-ghost use Rattle.stepper.specs.Meaning.{meaning};
+ghost use Rattle.moves.specs.Meaning.{meaning};
 ghost use Rattle.controller.specs.Record.{running, Took};
-use stepper::Stands;
+use moves::Stands;
 
 pub struct Controller {
     pub state: u32,

@@ -5,24 +5,17 @@ use libc::STDOUT_FILENO;
 // One vector.
 fn one(n: usize) {
     let mut path = io::buffer();
-    let length = os::arg(n, &mut path);
-    if os::errno() != 0 {
-        os::fail(b"argument");
-        return;
-    }
-    let fd = os::open_read(&path[..length]);
-    if fd < 0 {
-        os::fail(&path[..length]);
-        return;
-    }
     let mut file = io::buffer();
-    let got = io::read_full(fd, &mut file);
-    libc::close(fd);
-    let check = crc::crc(&file[..got]);
-    io::write_all(STDOUT_FILENO, &path[..length]);
-    io::write_all(STDOUT_FILENO, b" ");
-    io::print_hex(STDOUT_FILENO, check as u64, 8);
-    io::write_all(STDOUT_FILENO, b"\n");
+    let given = input::named(n, b"argument", &mut path, &mut file);
+    if given.found {
+        let length = given.name;
+        let got = given.bytes;
+        let check = crc::crc(&file[..got]);
+        io::write_all(STDOUT_FILENO, &path[..length]);
+        io::write_all(STDOUT_FILENO, b" ");
+        io::print_hex(STDOUT_FILENO, check as u64, 8);
+        io::write_all(STDOUT_FILENO, b"\n");
+    }
 }
 
 fn main() {

@@ -1,5 +1,4 @@
 // What does a source say? `front` reads one on standard input; `front FILE..` reads each file, and writes its name first.
-use libc::STDIN_FILENO;
 use libc::STDOUT_FILENO;
 use source::Answer;
 
@@ -25,36 +24,31 @@ fn answer(bytes: &[u8]) {
     }
 }
 
-// What can be read: a longer source is cut at 65,536 bytes, and refused with 3 as the whole would be.
-fn source_from(fd: i32) {
+// A source longer than the buffer is cut at 65,536 bytes, and refused with 3 as the whole would be.
+fn standard() {
     let mut buffer = io::large_buffer();
-    let got = io::read_full(fd, &mut buffer);
+    let got = input::standard(&mut buffer);
     answer(&buffer[..got]);
 }
 
-// The file that argument n names.
+// .. and so is the file that argument n names.
 fn named(n: usize) {
     let mut path = io::buffer();
-    let length = os::arg(n, &mut path);
-    if os::errno() != 0 {
-        os::fail(b"argument");
-        return;
+    let mut buffer = io::large_buffer();
+    let given = input::named(n, b"argument", &mut path, &mut buffer);
+    if given.found {
+        let length = given.name;
+        let got = given.bytes;
+        text(&path[..length]);
+        text(b": ");
+        answer(&buffer[..got]);
     }
-    let fd = os::open_read(&path[..length]);
-    if fd < 0 {
-        os::fail(&path[..length]);
-        return;
-    }
-    text(&path[..length]);
-    text(b": ");
-    source_from(fd);
-    libc::close(fd);
 }
 
 fn main() {
     let count = os::arg_count();
     if count < 2 {
-        source_from(STDIN_FILENO);
+        standard();
         return;
     }
     let mut n: usize = 1;

@@ -4,7 +4,7 @@ ghost use Prim.Native.Nat.{_+_, _*_, _≤_};
 ghost use lib.ListN.{length};
 ghost use Rattle.file_law.specs.Answer.{firstNot};
 ghost use Rattle.file_law.specs.Reading.{mostBlocks, lengthGood, blockGood};
-use crate::bytes;
+use stream::bytes;
 
 // Some whole blocks, and not too many.
 pub fn length_good(n: usize) -> bool

@@ -7,17 +7,11 @@ ghost use Rattle.file_law.specs.Answer.{gives, refuses, unsound, unless};
 ghost use Rattle.file_law.specs.Reading.{lengthGood, streamIn, contentGood, sizesIn, openAnswer};
 ghost use Rattle.file_law.specs.Stepping.{shapeAnswer};
 ghost use Rattle.reader.specs.Meaning.{meaning};
+use stream::bytes;
+use stream::sizes;
 
 mod blocks;
-mod bytes;
 mod rows;
-mod sizes;
-mod stream;
-
-pub use sizes::pow2;
-pub use stream::next_at;
-pub use stream::next_low;
-pub use stream::outputs_at;
 
 // The sizes that a file states, or a refusal with its number and place.
 pub enum Opened {

@@ -6,9 +6,8 @@ ghost use Rattle.file_law.specs.Answer.{every};
 ghost use Rattle.file_law.specs.Table.{mostOutputs};
 ghost use Rattle.file_law.specs.Reading.{mostBlocks, streamIn, blocksFor, clearAt, zeroAt, nextsGood, rowsGood};
 ghost use Rattle.reader.specs.Room.{Room};
-use crate::bytes;
-use crate::sizes;
-use crate::stream;
+use stream::bytes;
+use stream::sizes;
 
 // No state has a spare output bit.
 fn all_clear(file: &[u8], k: u32, o: u32, n: u32) -> bool

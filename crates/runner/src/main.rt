@@ -1,6 +1,6 @@
 // Opens a table file and steps it: runner FILE INPUT.., each input a decimal number.
+use moves::Stands;
 use reader::Opened;
-use stepper::Stands;
 
 mod number;
 mod show;
@@ -66,18 +66,10 @@ fn opened(file: &[u8]) {
 
 fn main() {
     let mut path = io::buffer();
-    let length = os::arg(1, &mut path);
-    if os::errno() != 0 {
-        os::fail(b"runner FILE INPUT..");
-        return;
-    }
-    let fd = os::open_read(&path[..length]);
-    if fd < 0 {
-        os::fail(&path[..length]);
-        return;
-    }
     let mut buffer = io::large_buffer();
-    let got = io::read_full(fd, &mut buffer);
-    libc::close(fd);
-    opened(&buffer[..got]);
+    let given = input::named(1, b"runner FILE INPUT..", &mut path, &mut buffer);
+    if given.found {
+        let got = given.bytes;
+        opened(&buffer[..got]);
+    }
 }

@@ -1,6 +1,6 @@
 // What the runner writes.
 use libc::STDOUT_FILENO;
-use stepper::Stands;
+use moves::Stands;
 
 pub fn text(s: &[u8]) {
     io::write_all(STDOUT_FILENO, s);

@@ -7,9 +7,9 @@ use mathlib.Core.List.{List}
 use Rattle.file_law.specs.Table.{Running}
 use Rattle.file_law.specs.Stepping.{stepAnswer, outputsAnswer, startAnswer}
 use Rattle.file_law.proofs.Answers.{same}
-use Rattle.stepper.specs.Meaning.{meaning}
-use Rattle.stepper.specs.declared.Stands.{Stands}
-use Rattle.stepper.specs.declared.Stands.the-variants.{At, Refused}
+use Rattle.moves.specs.Meaning.{meaning}
+use Rattle.moves.specs.declared.Stands.{Stands}
+use Rattle.moves.specs.declared.Stands.the-variants.{At, Refused}
 
 pub one : (a b : Stands) → meaning a ≡ meaning b → a ≡ b
 one (At s o) (At s′ o′) e = ap₂ At (ap (λ (r : Running). r .state) (same e)) (ap (λ (r : Running). r .outputs) (same e))

@@ -2,7 +2,7 @@ use native.Mathlib.Omega.{arith}
 use borrow.Author.Needs.{needs}
 use mathlib.Core.Path.{sym, ap}
 use Rattle.compiler.specs.Answered.{meaning}
-use Rattle.compiler.specs.Code.{codeOf}
+use Rattle.code_law.specs.Code.{codeOf}
 use Rattle.compiler.specs.declared.Compiled.{Compiled}
 use Rattle.compiler.proofs.windnadel_compile.Statement.{statement}
 use Rattle.compiler.proofs.windnadel_compile.Tie as tie

@@ -43,10 +43,10 @@ use denote.Triple.Clauses.{ensured, lasts}
 use Rattle.file_law.specs.Answer.{Answer}
 use Rattle.file_law.specs.Table.{Running}
 use Rattle.file_law.specs.Stepping.{startAnswer, after}
-use Rattle.stepper.specs.Meaning.{meaning}
-use Rattle.stepper.specs.declared.Stands.{Stands}
-use Rattle.stepper.proofs.Stands as S
-use Rattle.stepper.proofs.Stands.Laws as S′
+use Rattle.moves.specs.Meaning.{meaning}
+use Rattle.moves.specs.declared.Stands.{Stands}
+use Rattle.moves.proofs.Stands as S
+use Rattle.moves.proofs.Stands.Laws as S′
 use Rattle.stepper.proofs.start as start
 use Rattle.stepper.proofs.start.Symbol as start-def
 use Rattle.stepper.proofs.start.Symbol.{name as #stepper·start}

@@ -14,8 +14,8 @@ abbrev μ-loop : tie.MeasureT-loop
 arg-count-requires : tie.Need-arg-count-requires Inv-loop μ-loop
 arg-count-requires c κs = search needs
 
-source-from-requires : tie.Need-source-from-requires Inv-loop μ-loop
-source-from-requires c κs = search needs
+standard-requires : tie.Need-standard-requires Inv-loop μ-loop
+standard-requires c κs = search needs
 
 returns : tie.Need-returns Inv-loop μ-loop
 returns c = search needs
@@ -45,7 +45,7 @@ main-spec =
     Inv-loop
     μ-loop
     arg-count-requires
-    source-from-requires
+    standard-requires
     returns
     loop-holds
     named-requires

@@ -1,45 +1,20 @@
 -- `stepper::step` meets its contract: the answer about the shape is the step's refusal, or gives the sizes of the move.
 -- Assumes nothing.
-use mathlib.Core.Path.{_≡_, sym, ap, _∙_}
-use Rattle.file_law.specs.Answer.{gives}
-use Rattle.file_law.proofs.Steps.{sized, step-given, step-refused}
-use Rattle.file_law.specs.Stepping.{shapeAnswer}
-use Rattle.reader.specs.Meaning.{meaning}
 use borrow.Author.Needs.{needs}
+use Rattle.file_law.proofs.Steps.{step-given, step-refused}
+use Rattle.stepper.proofs.Shaped.{sizes, goes-on, stops}
 use Rattle.stepper.proofs.step.Statement.{statement}
 use Rattle.stepper.proofs.step.Tie as tie
-
--- the sizes that the shape gave
-given : (c : tie.After-known-told) → gives (record { inputs = c .before .shape2 .given .0 .0; outputs = c .before .shape2 .given .0 .1 .0; states = c .before .shape2 .given .0 .1 .1 .0 }) ≡ shapeAnswer (c .before .before .before .before .before .args .file .now)
-given c = sym (ap meaning (c .before .shape2 .given .1)) ∙ c .before .before .before .shape .ensures
-
-shape-requires : tie.Need-shape-requires
-shape-requires c κs = search needs
-
-enum-known-shape : tie.Need-enum-known-shape
-enum-known-shape c = search needs
-
-move-in-requires : tie.Need-move-in-requires
-move-in-requires c κs = sized (c .before .before .before .before .before .args .file .now) (given c)
-
-enum-known-shape-2 : tie.Need-enum-known-shape-2
-enum-known-shape-2 c = search needs
-
-returns : tie.Need-returns
-returns c = let a = c .before .before .before .before .before .before .args in
-    c .move-in .ensures ∙ sym (step-given (a .file .now) (a .state) (a .input) _ _ _ (given (c .before)))
-
-returns-2 : tie.Need-returns-2
-returns-2 c = let a = c .before .before .before .before .before .args in
-    sym (step-refused (a .file .now) (a .state) (a .input) _ _ (sym (ap meaning (c .before .shape3 .given .1)) ∙ c .before .before .before .shape .ensures))
 
 pub step-spec : {M : Type 1} → statement M
 step-spec =
     tie.close
     (tie.spec
-    shape-requires
-    enum-known-shape
-    move-in-requires
-    enum-known-shape-2
-    returns
-    returns-2)
+    (λ c κs. search needs)
+    (λ c. search needs)
+    (λ c κs. sizes (c .before .before .before .before .before .args .file .now) (c .before .before .before .shape .ensures) (c .before .shape2 .given .1))
+    (λ c. search needs)
+    (λ c. let a = c .before .before .before .before .before .before .args in
+    goes-on (a .file .now) (c .before .before .before .before .shape .ensures) (c .before .before .shape2 .given .1) (step-given (a .file .now) (a .state) (a .input)) (c .move-in .ensures))
+    (λ c. let a = c .before .before .before .before .before .args in
+    stops (a .file .now) (c .before .before .before .shape .ensures) (c .before .shape3 .given .1) (step-refused (a .file .now) (a .state) (a .input))))

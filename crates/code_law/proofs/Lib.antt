@@ -1,0 +1,4 @@
+pub mod Declared
+pub mod Places
+pub mod Compile
+pub mod Files

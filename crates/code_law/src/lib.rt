@@ -1,0 +1,1 @@
+// What the numbers that C gets tell: definitions and laws alone.
