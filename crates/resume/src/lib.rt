@@ -11,19 +11,14 @@ ghost use Rattle.nodes.specs.Ready.{Leaves};
 ghost use Rattle.runs.specs.Run.{window};
 ghost use Rattle.runs.specs.Buffer.{entriesIn, Open, Comes, Joins};
 ghost use Rattle.runs.specs.Seen.{resumeSeen, resumeAllSeen, resumeCasesSeen, resumeEachSeen};
-ghost use Rattle.resume.specs.Stand.{resumedAs, Stand};
+ghost use Rattle.resume.specs.Stand.{headShape, resumedAs, Stand};
 use nodes::Among;
 use nodes::Shape;
 
-// How the statement i is resumed where m is the least number of an activity: one that stands at its head starts, but for a
-// delay.
-fn shape_from(t: &[u8; 16384], i: u16, m: u16) -> Shape
-    ensures { λ r. ⌜ r ≡ resumedAs (eqb m i) (shapeOf (whatAt (now (t .entry)) i)) ⌝ }
+// A statement that stands at its head starts, but for a delay.
+fn head_shape(s: Shape) -> Shape
+    ensures { λ r. ⌜ r ≡ headShape s ⌝ }
 {
-    let s = nodes::shape_at(t, i);
-    if m != i {
-        return s;
-    }
     match s {
         Shape::Plain => Shape::Plain,
         Shape::Waiting(d) => Shape::Waiting(d),
@@ -32,6 +27,16 @@ fn shape_from(t: &[u8; 16384], i: u16, m: u16) -> Shape
         Shape::Tests => Shape::Plain,
         Shape::Together => Shape::Plain,
     }
+}
+
+// How the statement i is resumed where m is the least number of an activity. The test comes first: the match then jumps once.
+fn shape_from(t: &[u8; 16384], i: u16, m: u16) -> Shape
+    ensures { λ r. ⌜ r ≡ resumedAs (eqb m i) (shapeOf (whatAt (now (t .entry)) i)) ⌝ }
+{
+    if m == i {
+        return head_shape(nodes::shape_at(t, i));
+    }
+    nodes::shape_at(t, i)
 }
 
 // The statement i, which ends at e. The least number from i on where an activity stands is m, below e.
@@ -52,8 +57,7 @@ fn one(
     ensures { λ r. ⌜ Comes (resume (stmtAt left (now (t .entry)) i e) (window (entriesIn (now (old .entry))) b w) (record { word = word; inputs = inputs })) (resumeSeen (stmtAt left (now (t .entry)) i e) (window (entriesIn (now (old .entry))) b w) (record { word = word; inputs = inputs })) b (now (o .entry)) (now (o .exit)) r ⌝ }
 {
     let less = left - 1;
-    let s = shape_from(t, i, m);
-    match s {
+    match shape_from(t, i, m) {
         Shape::Plain => start::one(t, word, inputs, i, e, left, b, o),
         Shape::Waiting(d) => waits::delay(o, b, i, runs::left_of(old, b, d as u8)),
         Shape::Either(a) => {
@@ -72,8 +76,7 @@ fn one(
         }
         Shape::Tests => runs::caught(cases(t, word, inputs, i + 1, e, less, b, w, m, old, o)),
         Shape::Together => {
-            let h = branches(t, word, inputs, i + 1, e, less, b, w, b, 0, 0, 0, old, o);
-            runs::caught(h)
+            runs::caught(branches(t, word, inputs, i + 1, e, less, b, w, b, 0, 0, 0, old, o))
         }
     }
 }

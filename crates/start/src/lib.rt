@@ -1,7 +1,9 @@
 // A statement, a list, cases and branches run from their start over the buffer o.
+ghost use mathlib.Core.Path.{_≡_};
 ghost use Prim.Native.Nat.{_+_, _-_, _*_, _<_, _≤_};
 ghost use Rattle.meaning.specs.Clock.{start, startAll, startCases, startEach, activities, activitiesAll, activitiesCases, activitiesSum};
-ghost use Rattle.nodes.specs.Layout.{widthAt, looksAt};
+ghost use Rattle.nodes.specs.Layout.{whatAt, widthAt, looksAt};
+ghost use Rattle.nodes.specs.declared.What.the-variants.{Choice};
 ghost use Rattle.nodes.specs.Decode.{listAt, stmtAt, casesAt, branchesAt};
 ghost use Rattle.nodes.specs.Good.{Good, GoodAll, GoodCases, GoodEach};
 ghost use Rattle.runs.specs.Buffer.{Open, Comes, Joins};
@@ -31,13 +33,7 @@ pub fn one(
         What::Delay(_, d) => waits::delay(o, b, i, d as u8),
         What::Change(c, v) => waits::change_bit(o, word, c, v),
         What::Assign(v, x) => waits::assign(t, word, inputs, i, v, x, o),
-        What::Choice(x, m) => {
-            let k = nodes::kept(m, i, e);
-            if waits::holds(t, word, inputs, i, x, o) {
-                return list(t, word, inputs, i + 1, k, less, b, o);
-            }
-            list(t, word, inputs, k, e, less, b, o)
-        }
+        What::Choice(x, m) => choice(t, word, inputs, i, e, x, m, left, b, o),
         What::While(x) => {
             if waits::holds(t, word, inputs, i, x, o) {
                 let h = list(t, word, inputs, i + 1, e, less, b, o);
@@ -55,6 +51,30 @@ pub fn one(
         What::Parallel => runs::caught(branches(t, word, inputs, i + 1, e, less, b, b, 0, 0, 0, o)),
         What::Case(_, _) => runs::tried(o, 0, 0),
     }
+}
+
+// The choice i, which ends at e: its test is x, its first list ends at m.
+fn choice(
+    t: &[u8; 16384],
+    word: u32,
+    inputs: u32,
+    i: u16,
+    e: u16,
+    x: u16,
+    m: u16,
+    left: u16,
+    b: u16,
+    o: &mut [u32; 11],
+) -> u8
+    requires { ⌜ (whatAt (now t) i ≡ Choice x m) × (Good (widthAt (now t)) (looksAt (now t)) (stmtAt left (now t) i e) × ((i < e) × ((3 * (e - i) ≤ left + 1) × ((b + activities (stmtAt left (now t) i e) ≤ 8) × Open (now o) b)))) ⌝ }
+    ensures { λ r. ⌜ Comes (start (stmtAt left (now (t .entry)) i e) (record { word = word; inputs = inputs })) (startSeen (stmtAt left (now (t .entry)) i e) (record { word = word; inputs = inputs })) b (now (o .entry)) (now (o .exit)) r ⌝ }
+{
+    let less = left - 1;
+    let k = nodes::kept(m, i, e);
+    if waits::holds(t, word, inputs, i, x, o) {
+        return list(t, word, inputs, i + 1, k, less, b, o);
+    }
+    list(t, word, inputs, k, e, less, b, o)
 }
 
 // The list from i to e.

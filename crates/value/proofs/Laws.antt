@@ -1,10 +1,13 @@
 -- Values as whole numbers, and their sizes.
 use mathlib.Core.Path.{_≡_, refl, sym, ap, _∙_}
 use mathlib.Core.Bool.{Bool, true, false, cond, not as opposite}
+use mathlib.Core.List.{List}
 use Prim.Native.Nat.{ℕ, zero, suc, _+_, _-_, _*_, _/_, _%_, _≤_, _<_, _^_}
 use native.Mathlib.Nat.{le-refl, le-trans, mul-le-mul, mod-lt, mod-eq-of-lt, one-mul}
 use native.Mathlib.Omega.{arith}
-use lib.IntN.{ℤ, pos, negsuc, natAbs}
+use lib.Dec.{ltb}
+use borrow.Author.Tests.{le-ltb}
+use lib.IntN.{ℤ, pos, negsuc, negℤ, natAbs, _+ℤ_, _-ℤ_, +ℤ-assoc, +ℤ-idl, +ℤ-idr}
 use lib.Pow.{pow-pos, le-ones, pow-mono}
 use lib.Signed.{mag, ltZ}
 use mir.Syntax.{w64}
@@ -14,8 +17,19 @@ use Rattle.meaning.specs.Tree.{Arithmetic, plus, minus, times, quotient, remain
 use Rattle.meaning.specs.Numbers.{Variable, input, boolean, integer, Reads, Value, whole, bool, over, rest, isOne, wholeOf, boolOf, sameWhole, compute, compare, combine, asNumber, read, readBit, value}
 use Rattle.meaning.specs.Worst.{combined}
 use Rattle.ints.proofs.Laws.{abs-sum, abs-diff, abs-prod, abs-quot, abs-rem}
+use Rattle.nodes.specs.Layout.{halfAt, partBase, kindOf, kindAt}
+use Rattle.nodes.specs.Decode.{sum, exprOf}
 use Rattle.nodes.specs.Fit.{isWhole, variableSize, sizeOf, FitKinds, Fit}
+use Rattle.nodes.specs.declared.Part.{Part}
+use Rattle.nodes.specs.declared.Sum.{Sum}
+use Rattle.nodes.specs.declared.Sum.the-variants.{Plus, Minus, Times, Quotient, Remainder}
+use Rattle.nodes.specs.declared.Kind.{Kind}
+use Rattle.nodes.specs.declared.Kind.the-variants as kinds
+use Rattle.value.specs.declared.Term.{Term}
+use Rattle.value.specs.declared.Term.the-variants.{Added, Other}
 use Rattle.value.specs.Flat.{flat, truthOf, compareZ, decides}
+use Rattle.value.specs.Leaf.{isLeaf, Leaf, leafOf}
+use Rattle.value.specs.Row.{adds, signed, termOf}
 
 -- a number that an i64 holds, read back from its bits
 pub through : (z : ℤ) → mag z < 9223372036854775808 → toZ w64 (ofZ w64 z) ≡ z
@@ -224,3 +238,132 @@ same-less a b h = rw h
 
 pub same-more : (a b : ℤ) → ltZ a b ≡ false → opposite (ltZ b a) ≡ sameWhole a b
 same-more a b h = rw h
+
+-- ---- leaves
+
+-- the kind that was read
+pub known : (t : List ℕ) (j : ℕ) {n : Part} {k : Kind} → n ≡ record { place = halfAt t (partBase j + 2); kind = kindAt t j } → n .kind ≡ k → kindAt t j ≡ k
+known t j e d = sym (ap (λ (x : Part). x .kind) e) ∙ d
+
+pub leaf-tag : (n c a b : ℕ) → ltb n 7 ≡ isLeaf (kindOf n c a b)
+unfolding kindOf
+leaf-tag zero c a b = refl
+leaf-tag (suc zero) c a b = refl
+leaf-tag (suc (suc zero)) c a b = refl
+leaf-tag (suc (suc (suc zero))) c a b = refl
+leaf-tag (suc (suc (suc (suc zero)))) c a b = refl
+leaf-tag (suc (suc (suc (suc (suc zero))))) c a b = refl
+leaf-tag (suc (suc (suc (suc (suc (suc zero)))))) c a b = refl
+leaf-tag (suc (suc (suc (suc (suc (suc (suc zero))))))) c a b = refl
+leaf-tag (suc (suc (suc (suc (suc (suc (suc (suc zero)))))))) c a b = refl
+leaf-tag (suc (suc (suc (suc (suc (suc (suc (suc (suc zero))))))))) c a b = refl
+leaf-tag (suc (suc (suc (suc (suc (suc (suc (suc (suc (suc zero)))))))))) c a b = refl
+leaf-tag (suc (suc (suc (suc (suc (suc (suc (suc (suc (suc (suc n))))))))))) c a b = le-ltb (suc (suc (suc (suc (suc (suc (suc (suc (suc (suc (suc n))))))))))) 7 (omega arith)
+
+pub leaf-fits : (k : Kind) (d : ℕ → Expr Variable) (p : ℕ) → isLeaf k ≡ true → Fit (exprOf d p k) → Leaf k
+unfolding Fit
+leaf-fits (kinds.Literal n) d p e h = h
+leaf-fits (kinds.Truth b) d p e h = h
+leaf-fits (kinds.Input i) d p e h = h
+leaf-fits (kinds.Boolean j) d p e h = h
+leaf-fits (kinds.Integer low width) d p e h = h
+leaf-fits (kinds.Bit low width j) d p e h = h
+leaf-fits (kinds.Not a) d p e h = no-bool e
+leaf-fits (kinds.Int a) d p e h = no-bool e
+leaf-fits (kinds.Arithmetic o a b) d p e h = no-bool e
+leaf-fits (kinds.Comparison o a b) d p e h = no-bool e
+leaf-fits (kinds.Logic o a b) d p e h = no-bool e
+
+pub leaf-is : (k : Kind) (d : ℕ → Expr Variable) (p : ℕ) (r : Reads) → isLeaf k ≡ true → leafOf k r ≡ flat (value (exprOf d p k) r)
+unfolding value
+leaf-is (kinds.Literal n) d p r e = refl
+leaf-is (kinds.Truth b) d p r e = refl
+leaf-is (kinds.Input i) d p r e = refl
+leaf-is (kinds.Boolean j) d p r e = refl
+leaf-is (kinds.Integer low width) d p r e = refl
+leaf-is (kinds.Bit low width j) d p r e = refl
+leaf-is (kinds.Not a) d p r e = no-bool e
+leaf-is (kinds.Int a) d p r e = no-bool e
+leaf-is (kinds.Arithmetic o a b) d p r e = no-bool e
+leaf-is (kinds.Comparison o a b) d p r e = no-bool e
+leaf-is (kinds.Logic o a b) d p r e = no-bool e
+
+-- ---- rows of `+` and `-`
+
+pub none-more : (n : ℕ) → n < 2147483648 → 0 + n < 2147483648
+none-more n h = omega arith
+
+no-row : {A : Type 0} {o : Sum} {a b : ℕ} → Other ≡ Added o a b → A
+no-row e = absurd (let z : _≡_ {A = ℕ} 0 1 = cc in omega arith)
+
+pub added : (k : Kind) {o : Sum} {a b : ℕ} → termOf k ≡ Added o a b → (k ≡ kinds.Arithmetic o a b) × (adds o ≡ true)
+added (kinds.Literal n) e = no-row e
+added (kinds.Truth b) e = no-row e
+added (kinds.Input i) e = no-row e
+added (kinds.Boolean j) e = no-row e
+added (kinds.Integer low width) e = no-row e
+added (kinds.Bit low width j) e = no-row e
+added (kinds.Not a) e = no-row e
+added (kinds.Int a) e = no-row e
+added (kinds.Arithmetic Plus a b) e = (cc, cc)
+added (kinds.Arithmetic Minus a b) e = (cc, cc)
+added (kinds.Arithmetic Times a b) e = no-row e
+added (kinds.Arithmetic Quotient a b) e = no-row e
+added (kinds.Arithmetic Remainder a b) e = no-row e
+added (kinds.Comparison o a b) e = no-row e
+added (kinds.Logic o a b) e = no-row e
+
+adds-size : (o : Sum) (m n : ℕ) → adds o ≡ true → combined (sum o) m n ≡ m + n
+adds-size Plus m n e = refl
+adds-size Minus m n e = refl
+adds-size Times m n e = no-bool e
+adds-size Quotient m n e = no-bool e
+adds-size Remainder m n e = no-bool e
+
+abs-signed : (o : Sum) (y : ℤ) → natAbs (signed o y) ≤ natAbs y
+abs-signed Plus y = le-refl (natAbs y)
+abs-signed Minus y = omega (arith, abs-diff (pos 0) y)
+abs-signed Times y = le-refl (natAbs y)
+abs-signed Quotient y = le-refl (natAbs y)
+abs-signed Remainder y = le-refl (natAbs y)
+
+adds-is : (o : Sum) (a y : ℤ) → adds o ≡ true → a +ℤ signed o y ≡ compute (sum o) a y
+adds-is Plus a y e = refl
+adds-is Minus a y e = ap (λ (z : ℤ). a +ℤ z) (+ℤ-idl (negℤ y))
+adds-is Times a y e = no-bool e
+adds-is Quotient a y e = no-bool e
+adds-is Remainder a y e = no-bool e
+
+-- the last operand y of a row
+pub row-sign : (o : Sum) (p : ℕ) (a b : Expr Variable) (r : Reads) {y : ℤ} → adds o ≡ true → Fit (arithmetic (sum o) p a b) → y ≡ flat (value b r)
+    → natAbs y < 2147483648
+unfolding Fit
+row-sign o p a b r {y} e h f = omega (arith, h .0, adds-size o (sizeOf a) (sizeOf b) e, size-of b r (h .1 .1 .0) f)
+
+pub sum-room : (o : Sum) (p : ℕ) (a b : Expr Variable) (r : Reads) {y : ℤ} → adds o ≡ true → Fit (arithmetic (sum o) p a b) → y ≡ flat (value b r)
+    → sizeOf a + natAbs (signed o y) < 2147483648
+unfolding Fit
+sum-room o p a b r {y} e h f =
+    omega (arith, h .0, adds-size o (sizeOf a) (sizeOf b) e, size-of b r (h .1 .1 .0) f, abs-signed o y)
+
+pub sum-is : (o : Sum) (p : ℕ) (a b : Expr Variable) (r : Reads) {y : ℤ} → adds o ≡ true → Fit (arithmetic (sum o) p a b) → y ≡ flat (value b r)
+    → flat (value a r) +ℤ signed o y ≡ flat (value (arithmetic (sum o) p a b) r)
+unfolding Fit
+sum-is o p a b r {y} e h f =
+    adds-is o (flat (value a r)) y e ∙ arithmetic-is (sum o) p a b r (h .1 .0) (h .1 .1 .0) refl f
+
+-- .. with x behind it
+pub row-room : (o : Sum) (p : ℕ) (a b : Expr Variable) (r : Reads) (x : ℤ) {y : ℤ} → adds o ≡ true → Fit (arithmetic (sum o) p a b) → y ≡ flat (value b r)
+    → sizeOf (arithmetic (sum o) p a b) + natAbs x < 2147483648 → sizeOf a + (natAbs (signed o y) + natAbs x) < 2147483648
+unfolding Fit sizeOf
+row-room o p a b r x {y} e h f k =
+    omega (arith, k, adds-size o (sizeOf a) (sizeOf b) e, size-of b r (h .1 .1 .0) f, abs-signed o y)
+
+pub row-more : (o : Sum) (p : ℕ) (a b : Expr Variable) (r : Reads) (x : ℤ) {y : ℤ} → adds o ≡ true → Fit (arithmetic (sum o) p a b) → y ≡ flat (value b r)
+    → sizeOf (arithmetic (sum o) p a b) + natAbs x < 2147483648 → sizeOf a + natAbs (signed o y +ℤ x) < 2147483648
+row-more o p a b r x {y} e h f k = omega (arith, row-room o p a b r x e h f k, abs-sum (signed o y) x)
+
+pub row-is : (o : Sum) (p : ℕ) (a b : Expr Variable) (r : Reads) (x : ℤ) {y : ℤ} → adds o ≡ true → Fit (arithmetic (sum o) p a b) → y ≡ flat (value b r)
+    → flat (value a r) +ℤ (signed o y +ℤ x) ≡ flat (value (arithmetic (sum o) p a b) r) +ℤ x
+row-is o p a b r x {y} e h f =
+    sym (+ℤ-assoc (flat (value a r)) (signed o y) x) ∙ ap (λ (z : ℤ). z +ℤ x) (sum-is o p a b r e h f)

@@ -162,11 +162,11 @@ module _ (t : ℕ) (c : one-lts.After-kept (calls-one t) (one-at t) one.Post) wh
   abbrev eis : one-lts.Start (calls-one t) (one-at t) one.Post
   eis = c .before .before .before .before .before
 
-  eio : (eqb (eis .args .m) (eis .args .i) ≡ false) × (shapeOf (whatAt (now (eis .args .t)) (eis .args .i)) ≡ Either (c .before .before .s2 .given .0 .0))
-  eio = inner t (c .before .before .before .before) (Either (c .before .before .s2 .given .0 .0)) (c .before .before .s2 .given .1) (omega arith)
+  eio : (eqb (eis .args .m) (eis .args .i) ≡ false) × (shapeOf (whatAt (now (eis .args .t)) (eis .args .i)) ≡ Either (c .before .before .a .given .0 .0))
+  eio = inner t (c .before .before .before .before) (Either (c .before .before .a .given .0 .0)) (c .before .before .a .given .1) (omega arith)
 
   ei : Eithered (eis .args .left) (now (eis .args .t)) (eis .args .i) (eis .args .e) (c .kept .result)
-  ei = eithered (eis .args .left) (now (eis .args .t)) (eis .args .i) (eis .args .e) (c .before .before .s2 .given .0 .0) _ (let z = one-lt t eis in omega arith) (eis .pre .1 .1 .1 .0) refl (eio .1) (c .kept .ensures)
+  ei = eithered (eis .args .left) (now (eis .args .t)) (eis .args .i) (eis .args .e) (c .before .before .a .given .0 .0) _ (let z = one-lt t eis in omega arith) (eis .pre .1 .1 .1 .0) refl (eio .1) (c .kept .ensures)
 
 module _ (t : ℕ) (c : one-lts.After-enum-told2 (calls-one t) (one-at t) one.Post) where
   abbrev res : one-lts.Start (calls-one t) (one-at t) one.Post
@@ -257,9 +257,9 @@ unfolding onesIn zerosIn
     (λ c. search needs)
     (λ c κs. let z = one-lt t (c .before .before .before .before) in let y = (c .before .before .before .before .pre .1 .1 .1 .1) in (c .before .before .before .before .pre .1 .0, (omega arith, (c .before .before .before .before .pre .1 .1 .1 .0, (omega arith, y .free)))))
     (λ c. search needs)
-    (λ c. record { fits = omega (arith, wait-short (c .before .before .before .before .before .args .left) (now (c .before .before .before .before .before .args .t)) (c .before .before .before .before .before .args .i) (c .before .before .before .before .before .args .e) (let z = one-lt t (c .before .before .before .before .before) in omega arith) (c .before .before .before .before .before .pre .1 .1 .1 .0) refl _ (waits-for t (c .before .before .before .before) _ (c .before .before .s .given .1)) (c .before .before .before .before .before .pre .1 .0)) })
-    (λ c κs. let y = (c .before .before .before .before .before .pre .1 .1 .1 .1) in (omega (arith, wait-wide (c .before .before .before .before .before .args .left) (now (c .before .before .before .before .before .args .t)) (c .before .before .before .before .before .args .i) (c .before .before .before .before .before .args .e) (let z = one-lt t (c .before .before .before .before .before) in omega arith) (c .before .before .before .before .before .pre .1 .1 .1 .0) refl _ (waits-for t (c .before .before .before .before) _ (c .before .before .s .given .1))), y .kept))
-    (λ c κs. let z = one-lt t (c .before .before .before .before .before .before) in let y = (c .before .before .before .before .before .before .pre .1 .1 .1 .1) in (y .free .long, (omega arith, omega (arith, wait-wide (c .before .before .before .before .before .before .args .left) (now (c .before .before .before .before .before .before .args .t)) (c .before .before .before .before .before .before .args .i) (c .before .before .before .before .before .before .args .e) (let z = one-lt t (c .before .before .before .before .before .before) in omega arith) (c .before .before .before .before .before .before .pre .1 .1 .1 .0) refl _ (waits-for t (c .before .before .before .before .before) _ (c .before .before .before .s .given .1))))))
+    (λ c. record { fits = omega (arith, wait-short (c .before .before .before .before .before .args .left) (now (c .before .before .before .before .before .args .t)) (c .before .before .before .before .before .args .i) (c .before .before .before .before .before .args .e) (let z = one-lt t (c .before .before .before .before .before) in omega arith) (c .before .before .before .before .before .pre .1 .1 .1 .0) refl _ (waits-for t (c .before .before .before .before) _ (c .before .before .d .given .1)) (c .before .before .before .before .before .pre .1 .0)) })
+    (λ c κs. let y = (c .before .before .before .before .before .pre .1 .1 .1 .1) in (omega (arith, wait-wide (c .before .before .before .before .before .args .left) (now (c .before .before .before .before .before .args .t)) (c .before .before .before .before .before .args .i) (c .before .before .before .before .before .args .e) (let z = one-lt t (c .before .before .before .before .before) in omega arith) (c .before .before .before .before .before .pre .1 .1 .1 .0) refl _ (waits-for t (c .before .before .before .before) _ (c .before .before .d .given .1))), y .kept))
+    (λ c κs. let z = one-lt t (c .before .before .before .before .before .before) in let y = (c .before .before .before .before .before .before .pre .1 .1 .1 .1) in (y .free .long, (omega arith, omega (arith, wait-wide (c .before .before .before .before .before .before .args .left) (now (c .before .before .before .before .before .before .args .t)) (c .before .before .before .before .before .before .args .i) (c .before .before .before .before .before .before .args .e) (let z = one-lt t (c .before .before .before .before .before .before) in omega arith) (c .before .before .before .before .before .before .pre .1 .1 .1 .0) refl _ (waits-for t (c .before .before .before .before .before) _ (c .before .before .before .d .given .1))))))
     (λ c. search needs)
     (λ c κs. let z = one-lt t (c .before .before .before .before) in omega arith)
     (λ c. let z = one-lt t (c .before .before .before .before .before .before) in omega arith)
@@ -281,7 +281,7 @@ unfolding onesIn zerosIn
     (λ c κs. let z = one-lt t (c .before .before .before .before) in let x = (pa t (c .before)) in let y = (c .before .before .before .before .pre .1 .1 .1 .1) in (omega arith, (parallel-good x (c .before .before .before .before .pre .1 .0), (omega arith, (y .room, (omega (arith, parallel-wide x), (omega arith, (y .free, (y .leaves, (y .kept))))))))))
     (λ c κs. search needs)
     (λ c. starts (c .before .before .before .before .before .args .left) (now (c .before .before .before .before .before .args .t)) (c .before .before .before .before .before .args .i) (c .before .before .before .before .before .args .e) (let z = one-lt t (c .before .before .before .before .before) in omega arith) (c .before .before .before .before .before .pre .1 .1 .1 .0) (omega arith) (c .before .before .before .before .before .pre .1 .1 .1 .1) (record { word = c .before .before .before .before .before .args .word; inputs = c .before .before .before .before .before .args .inputs }) (c .before .before .before .before .shape-from .ensures) (c .before .before .enum-told .given .1) (c .one .ensures))
-    (λ c. let y = (c .before .before .before .before .before .before .before .pre .1 .1 .1 .1) in let v = wait-wide (c .before .before .before .before .before .before .before .args .left) (now (c .before .before .before .before .before .before .before .args .t)) (c .before .before .before .before .before .before .before .args .i) (c .before .before .before .before .before .before .before .args .e) (let z = one-lt t (c .before .before .before .before .before .before .before) in omega arith) (c .before .before .before .before .before .before .before .pre .1 .1 .1 .0) refl _ (waits-for t (c .before .before .before .before .before .before) _ (c .before .before .before .before .s .given .1)) in wait-is (c .before .before .before .before .before .before .before .args .left) (now (c .before .before .before .before .before .before .before .args .t)) (c .before .before .before .before .before .before .before .args .i) (c .before .before .before .before .before .before .before .args .e) (let z = one-lt t (c .before .before .before .before .before .before .before) in omega arith) (c .before .before .before .before .before .before .before .pre .1 .1 .1 .0) refl _ (waits-for t (c .before .before .before .before .before .before) _ (c .before .before .before .before .s .given .1)) (window (entriesIn (now (c .before .before .before .before .before .before .before .args .old))) (c .before .before .before .before .before .before .before .args .b) (c .before .before .before .before .before .before .before .args .w)) (record { word = c .before .before .before .before .before .before .before .args .word; inputs = c .before .before .before .before .before .before .before .args .inputs }) (comes-as (ap (meaning.delayed (headAt (now (c .before .before .before .before .before .before .before .args .t)) (c .before .before .before .before .before .before .before .args .i))) (sym (c .before .left-of .ensures (c .before .before .before .before .before .before .before .args .w) (omega arith)))) refl (c .delay .ensures (headAt (now (c .before .before .before .before .before .before .before .args .t)) (c .before .before .before .before .before .before .before .args .i) .place))))
+    (λ c. let y = (c .before .before .before .before .before .before .before .pre .1 .1 .1 .1) in let v = wait-wide (c .before .before .before .before .before .before .before .args .left) (now (c .before .before .before .before .before .before .before .args .t)) (c .before .before .before .before .before .before .before .args .i) (c .before .before .before .before .before .before .before .args .e) (let z = one-lt t (c .before .before .before .before .before .before .before) in omega arith) (c .before .before .before .before .before .before .before .pre .1 .1 .1 .0) refl _ (waits-for t (c .before .before .before .before .before .before) _ (c .before .before .before .before .d .given .1)) in wait-is (c .before .before .before .before .before .before .before .args .left) (now (c .before .before .before .before .before .before .before .args .t)) (c .before .before .before .before .before .before .before .args .i) (c .before .before .before .before .before .before .before .args .e) (let z = one-lt t (c .before .before .before .before .before .before .before) in omega arith) (c .before .before .before .before .before .before .before .pre .1 .1 .1 .0) refl _ (waits-for t (c .before .before .before .before .before .before) _ (c .before .before .before .before .d .given .1)) (window (entriesIn (now (c .before .before .before .before .before .before .before .args .old))) (c .before .before .before .before .before .before .before .args .b) (c .before .before .before .before .before .before .before .args .w)) (record { word = c .before .before .before .before .before .before .before .args .word; inputs = c .before .before .before .before .before .before .before .args .inputs }) (comes-as (ap (meaning.delayed (headAt (now (c .before .before .before .before .before .before .before .args .t)) (c .before .before .before .before .before .before .before .args .i))) (sym (c .before .left-of .ensures (c .before .before .before .before .before .before .before .args .w) (omega arith)))) refl (c .delay .ensures (headAt (now (c .before .before .before .before .before .before .before .args .t)) (c .before .before .before .before .before .before .before .args .i) .place))))
     (λ c. either-second (ei t (c .before .before .before)) (omega arith) (c .before .before .before .before .before .before .before .before .pre .1 .1 .1 .1) (record { word = c .before .before .before .before .before .before .before .before .args .word; inputs = c .before .before .before .before .before .before .before .before .args .inputs }) (eqb-false _ _ (eio t (c .before .before .before) .0)) (c .before .before .if1 .left) (c .list2 .ensures))
     (λ c. comes-again (c .before .before .before .list3 .ensures) (repeat-again (re t (c .before .before .before .before .before)) (c .before .before .before .before .before .before .before .before .pre .1 .1 .1 .1) (record { word = c .before .before .before .before .before .before .before .before .args .word; inputs = c .before .before .before .before .before .before .before .before .args .inputs }) (eqb-false _ _ (reo t (c .before .before .before .before .before) .0))) (omega (arith, c .before .before .if2 .left)) (c .one2 .ensures))
     (λ c. switch-in (sw t (c .before .before .before)) (c .before .before .before .before .before .before .pre .1 .1 .1 .1) (record { word = c .before .before .before .before .before .before .args .word; inputs = c .before .before .before .before .before .before .args .inputs }) (eqb-false _ _ (swo t (c .before .before .before) .0)) (c .before .cases .ensures) (c .caught .ensures))

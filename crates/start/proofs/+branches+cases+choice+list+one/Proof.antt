@@ -1,6 +1,6 @@
 use mathlib.Core.Path.{_≡_, refl, ap, sym, _∙_}
 use mathlib.Core.List.{List}
-use Prim.Native.Nat.{_-_, _+_, _≤_}
+use Prim.Native.Nat.{_-_, _+_, _*_, _≤_}
 use native.Mathlib.Omega.{arith}
 use denote.Ref.{now}
 use Rattle.meaning.specs.Tree.{Stmt}
@@ -23,16 +23,19 @@ use borrow.Fn.Kinds.{In}
 use borrow.Fn.PlainCycle.{Measures, is, falls, and}
 use Rattle.start.proofs.branches.Reads as branches
 use Rattle.start.proofs.branches.Kinds as branches-kinds
-use Rattle.start.proofs.+branches+cases+list+one.Lts-branches as branches-lts
+use Rattle.start.proofs.+branches+cases+choice+list+one.Lts-branches as branches-lts
 use Rattle.start.proofs.cases.Reads as cases
 use Rattle.start.proofs.cases.Kinds as cases-kinds
-use Rattle.start.proofs.+branches+cases+list+one.Lts-cases as cases-lts
+use Rattle.start.proofs.+branches+cases+choice+list+one.Lts-cases as cases-lts
+use Rattle.start.proofs.choice.Reads as choice
+use Rattle.start.proofs.choice.Kinds as choice-kinds
+use Rattle.start.proofs.+branches+cases+choice+list+one.Lts-choice as choice-lts
 use Rattle.start.proofs.list.Reads as list
 use Rattle.start.proofs.list.Kinds as list-kinds
-use Rattle.start.proofs.+branches+cases+list+one.Lts-list as list-lts
+use Rattle.start.proofs.+branches+cases+choice+list+one.Lts-list as list-lts
 use Rattle.start.proofs.one.Reads as one
 use Rattle.start.proofs.one.Kinds as one-kinds
-use Rattle.start.proofs.+branches+cases+list+one.Lts-one as one-lts
+use Rattle.start.proofs.+branches+cases+choice+list+one.Lts-one as one-lts
 use Rattle.nodes.proofs.among_at.Reads as among-at-reads
 use Rattle.nodes.proofs.branch_end_at.Reads as branch-end-at-reads
 use Rattle.nodes.proofs.end_at.Reads as end-at-reads
@@ -52,20 +55,23 @@ use Rattle.waits.proofs.assign.Reads as assign-reads
 use Rattle.waits.proofs.change_bit.Reads as change-bit-reads
 use Rattle.waits.proofs.delay.Reads as delay-reads
 use Rattle.waits.proofs.holds.Reads as holds-reads
-use Rattle.start.proofs.+branches+cases+list+one.{statement}
-use Rattle.start.proofs.+branches+cases+list+one.Tie.{close}
+use Rattle.start.proofs.+branches+cases+choice+list+one.{statement}
+use Rattle.start.proofs.+branches+cases+choice+list+one.Tie.{close}
 
 abbrev μ-branches : Measures 2 branches-kinds.ps ℕ
-μ-branches κs a = a .1 .1 .1 .1 .1 .0
+μ-branches κs a = 2 * a .1 .1 .1 .1 .1 .0
 
 abbrev μ-cases : Measures 2 cases-kinds.ps ℕ
-μ-cases κs a = a .1 .1 .1 .1 .1 .0
+μ-cases κs a = 2 * a .1 .1 .1 .1 .1 .0
+
+abbrev μ-choice : Measures 2 choice-kinds.ps ℕ
+μ-choice κs a = 2 * a .1 .1 .1 .1 .1 .1 .1 .0
 
 abbrev μ-list : Measures 2 list-kinds.ps ℕ
-μ-list κs a = a .1 .1 .1 .1 .1 .0
+μ-list κs a = 2 * a .1 .1 .1 .1 .1 .0
 
 abbrev μ-one : Measures 2 one-kinds.ps ℕ
-μ-one κs a = a .1 .1 .1 .1 .1 .0
+μ-one κs a = 2 * a .1 .1 .1 .1 .1 .0 + 1
 
 abbrev branches-at : ℕ → In 2 branches-kinds.ps
 branches-at t = and 2 branches-kinds.ps (is 2 branches-kinds.ps μ-branches t) branches.Pre
@@ -78,6 +84,12 @@ cases-at t = and 2 cases-kinds.ps (is 2 cases-kinds.ps μ-cases t) cases.Pre
 
 abbrev cases-below : ℕ → In 2 cases-kinds.ps
 cases-below t = and 2 cases-kinds.ps (falls 2 cases-kinds.ps _<_ μ-cases t) cases.Pre
+
+abbrev choice-at : ℕ → In 2 choice-kinds.ps
+choice-at t = and 2 choice-kinds.ps (is 2 choice-kinds.ps μ-choice t) choice.Pre
+
+abbrev choice-below : ℕ → In 2 choice-kinds.ps
+choice-below t = and 2 choice-kinds.ps (falls 2 choice-kinds.ps _<_ μ-choice t) choice.Pre
 
 abbrev list-at : ℕ → In 2 list-kinds.ps
 list-at t = and 2 list-kinds.ps (is 2 list-kinds.ps μ-list t) list.Pre
@@ -97,11 +109,14 @@ calls-branches t = (closed-reads.Asked, closed-reads.Learnt, branch-end-at-reads
 abbrev calls-cases : ℕ → cases-lts.Claims
 calls-cases t = (among-at-reads.Asked, among-at-reads.Learnt, list-below t, list.Post, kept-reads.Asked, kept-reads.Learnt, holds-reads.Asked, holds-reads.Learnt, cases-below t, cases.Post, then-at-reads.Asked, then-at-reads.Learnt)
 
+abbrev calls-choice : ℕ → choice-lts.Claims
+calls-choice t = (kept-reads.Asked, kept-reads.Learnt, holds-reads.Asked, holds-reads.Learnt, list-below t, list.Post)
+
 abbrev calls-list : ℕ → list-lts.Claims
 calls-list t = (end-at-reads.Asked, end-at-reads.Learnt, one-below t, one.Post, list-below t, list.Post, then-at-reads.Asked, then-at-reads.Learnt)
 
 abbrev calls-one : ℕ → one-lts.Claims
-calls-one t = (node-at-reads.Asked, node-at-reads.Learnt, tried-reads.Asked, tried-reads.Learnt, delay-reads.Asked, delay-reads.Learnt, change-bit-reads.Asked, change-bit-reads.Learnt, assign-reads.Asked, assign-reads.Learnt, kept-reads.Asked, kept-reads.Learnt, holds-reads.Asked, holds-reads.Learnt, list-below t, list.Post, looped-reads.Asked, looped-reads.Learnt, cases-below t, cases.Post, caught-reads.Asked, caught-reads.Learnt, branches-below t, branches.Post)
+calls-one t = (node-at-reads.Asked, node-at-reads.Learnt, tried-reads.Asked, tried-reads.Learnt, delay-reads.Asked, delay-reads.Learnt, change-bit-reads.Asked, change-bit-reads.Learnt, assign-reads.Asked, assign-reads.Learnt, choice-below t, choice.Post, holds-reads.Asked, holds-reads.Learnt, list-below t, list.Post, looped-reads.Asked, looped-reads.Learnt, cases-below t, cases.Post, caught-reads.Asked, caught-reads.Learnt, branches-below t, branches.Post)
 
 module _ (t : ℕ) (c : branches-lts.After-branch-end-at (calls-branches t) (branches-at t) branches.Post) where
   abbrev brs : branches-lts.Start (calls-branches t) (branches-at t) branches.Post
@@ -109,6 +124,13 @@ module _ (t : ℕ) (c : branches-lts.After-branch-end-at (calls-branches t) (bra
 
   br : Branched (brs .args .left) (now (brs .args .t)) (brs .args .i) (brs .args .e) (c .branch-end-at .result)
   br = branched (brs .args .left) (now (brs .args .t)) (brs .args .i) (brs .args .e) _ (c .before .if1 .left) (brs .pre .1 .1 .0) (c .branch-end-at .ensures)
+
+module _ (t : ℕ) (c : choice-lts.After-kept (calls-choice t) (choice-at t) choice.Post) where
+  abbrev chs : choice-lts.Start (calls-choice t) (choice-at t) choice.Post
+  chs = c .before
+
+  ch : Chosen (chs .args .left) (now (chs .args .t)) (chs .args .i) (chs .args .e) (chs .args .x) (c .kept .result)
+  ch = chosen (chs .args .left) (now (chs .args .t)) (chs .args .i) (chs .args .e) _ (chs .args .m) _ (chs .pre .1 .1 .1 .0) (c .kept .ensures) (stmt-opened (chs .args .left) (now (chs .args .t)) (chs .args .i) (chs .args .e) (λ z. omega arith) refl (chs .pre .1 .0))
 
 module _ (t : ℕ) (c : list-lts.After-end-at (calls-list t) (list-at t) list.Post) where
   abbrev lss : list-lts.Start (calls-list t) (list-at t) list.Post
@@ -154,13 +176,6 @@ module _ (t : ℕ) (c : one-lts.After-node-at (calls-one t) (one-at t) one.Post)
       → Comes (meaning.start (stmtAt (os .args .left) (now (os .args .t)) (os .args .i) (os .args .e)) reads) (startSeen (stmtAt (os .args .left) (now (os .args .t)) (os .args .i) (os .args .e)) reads) b l m h
   is-as e C = one-is (os .args .left) (now (os .args .t)) (os .args .i) (os .args .e) _ (opens e) reads C
 
-module _ (t : ℕ) (c : one-lts.After-kept (calls-one t) (one-at t) one.Post) where
-  abbrev chs : one-lts.Start (calls-one t) (one-at t) one.Post
-  chs = c .before .before .before .before .before
-
-  ch : Chosen (chs .args .left) (now (chs .args .t)) (chs .args .i) (chs .args .e) (c .before .before .w4 .given .0 .0) (c .kept .result)
-  ch = chosen (chs .args .left) (now (chs .args .t)) (chs .args .i) (chs .args .e) _ (c .before .before .w4 .given .0 .1 .0) _ (chs .pre .1 .1 .0) (c .kept .ensures) (opens t (c .before .before .before .before) (c .before .before .w4 .given .1))
-
 module _ (t : ℕ) (c : one-lts.After-known-told5 (calls-one t) (one-at t) one.Post) where
   abbrev whs : one-lts.Start (calls-one t) (one-at t) one.Post
   whs = c .before .before .before .before
@@ -189,9 +204,9 @@ module _ (t : ℕ) (c : one-lts.After-enum-told6 (calls-one t) (one-at t) one.Po
   pa : IsParallel (pas .args .left) (now (pas .args .t)) (pas .args .i) (pas .args .e)
   pa = record { is = opens t (c .before .before) (c .enum-told6 .given .1) }
 
-pub +branches+cases+list+one-spec : {M : Type 1} → statement M
+pub +branches+cases+choice+list+one-spec : {M : Type 1} → statement M
 unfolding meaning.start startSeen Good meaning.activities onesIn zerosIn
-+branches+cases+list+one-spec = close μ-branches μ-cases μ-list μ-one
++branches+cases+choice+list+one-spec = close μ-branches μ-cases μ-choice μ-list μ-one
     (λ t. branches-lts.spec (calls-branches t) (branches-at t) branches.Post
     (λ c κs. c .before .before .pre .1 .1 .1 .1 .1 .long)
     (λ c. no-branches (c .before .before .before .args .left) (now (c .before .before .before .args .t)) (c .before .before .before .args .i) (c .before .before .before .args .e) (record { word = c .before .before .before .args .word; inputs = c .before .before .before .args .inputs }) (c .before .before .if1 .taken) (joins-none (c .closed .ensures)))
@@ -229,6 +244,15 @@ unfolding meaning.start startSeen Good meaning.activities onesIn zerosIn
     (λ c κs. let x = ts t (c .before .before .before .before) in (omega arith, (test-good x (c .before .before .before .before .before .before .before .before .before .before .pre .1 .0) .1 .1 .1, (omega arith, (omega (arith, test-rest-wide x), (looked-open (c .before .before .holds .ensures .1) (c .before .before .before .before .before .before .before .before .before .before .pre .1 .1 .1 .1)))))))
     (λ c. default-is (df t (c .before .before)) (record { word = c .before .before .before .before .before .before .args .word; inputs = c .before .before .before .before .before .before .args .inputs }) (c .list .ensures))
     (λ c. test-false (ts t (c .before .before .before .before .before)) (record { word = c .before .before .before .before .before .before .before .before .before .before .before .args .word; inputs = c .before .before .before .before .before .before .before .before .before .before .before .args .inputs }) (sym (c .before .before .before .holds .ensures .0) ∙ c .before .before .if2 .left) (c .before .before .before .holds .ensures .1) (c .cases2 .ensures)))
+    (λ t. choice-lts.spec (calls-choice t) (choice-at t) choice.Post
+    (λ c. search needs)
+    (λ c κs. search needs)
+    (λ c κs. let g = choice-good (ch t (c .before)) (c .before .before .pre .1 .1 .0) in (c .before .before .pre .1 .1 .1 .1 .1 .1 .long, (g .0, g .1 .0)))
+    (λ c. search needs)
+    (λ c κs. let x = ch t (c .before .before .before .before) in (omega arith, (choice-good x (c .before .before .before .before .before .pre .1 .1 .0) .1 .1 .0, (omega arith, (omega (arith, choice-first-wide x), looked-open (c .before .before .holds .ensures .1) (c .before .before .before .before .before .pre .1 .1 .1 .1 .1 .1))))))
+    (λ c. choice-true (ch t (c .before .before .before .before .before)) (record { word = c .before .before .before .before .before .before .args .word; inputs = c .before .before .before .before .before .before .args .inputs }) (c .before .before .before .holds .ensures .1) (sym (c .before .before .before .holds .ensures .0) ∙ c .before .before .if1 .taken) (c .list .ensures))
+    (λ c κs. let x = ch t (c .before .before .before .before) in (omega arith, (choice-good x (c .before .before .before .before .before .pre .1 .1 .0) .1 .1 .1, (omega arith, (omega (arith, choice-rest-wide x), looked-open (c .before .before .holds .ensures .1) (c .before .before .before .before .before .pre .1 .1 .1 .1 .1 .1))))))
+    (λ c. choice-false (ch t (c .before .before .before .before .before)) (record { word = c .before .before .before .before .before .before .args .word; inputs = c .before .before .before .before .before .before .args .inputs }) (c .before .before .before .holds .ensures .1) (sym (c .before .before .before .holds .ensures .0) ∙ c .before .before .if1 .left) (c .list2 .ensures)))
     (λ t. list-lts.spec (calls-list t) (list-at t) list.Post
     (λ c. list-none (c .before .args .left) (now (c .before .args .t)) (c .before .args .i) (c .before .args .e) (record { word = c .before .args .word; inputs = c .before .args .inputs }) (c .before .args .b) (now (c .before .args .o)) ((c .before .pre .1 .1 .1 .1) .long) (c .if1 .taken))
     (λ c. search needs)
@@ -251,22 +275,17 @@ unfolding meaning.start startSeen Good meaning.activities onesIn zerosIn
     (λ c. search needs)
     (λ c κs. let g = good t (c .before .before .before .before) (c .before .before .w3 .given .1) in ((c .before .before .before .before .before .pre .1 .1 .1 .1 .1) .long, (g .0, g .1)))
     (λ c. search needs)
-    (λ c κs. search needs)
-    (λ c κs. let g = choice-good (ch t (c .before)) (c .before .before .before .before .before .before .pre .1 .0) in ((c .before .before .before .before .before .before .pre .1 .1 .1 .1 .1) .long, (g .0, g .1 .0)))
-    (λ c. search needs)
-    (λ c κs. let x = ch t (c .before .before .before .before) in (omega arith, (choice-good x (c .before .before .before .before .before .before .before .before .before .pre .1 .0) .1 .1 .0, (omega arith, (omega (arith, choice-first-wide x), (looked-open (c .before .before .holds .ensures .1) (c .before .before .before .before .before .before .before .before .before .pre .1 .1 .1 .1 .1)))))))
-    (λ c. choice-true (ch t (c .before .before .before .before .before)) (record { word = c .before .before .before .before .before .before .before .before .before .before .args .word; inputs = c .before .before .before .before .before .before .before .before .before .before .args .inputs }) (c .before .before .before .holds .ensures .1) (sym (c .before .before .before .holds .ensures .0) ∙ c .before .before .if1 .taken) (c .list .ensures))
-    (λ c κs. let x = ch t (c .before .before .before .before) in (omega arith, (choice-good x (c .before .before .before .before .before .before .before .before .before .pre .1 .0) .1 .1 .1, (omega arith, (omega (arith, choice-rest-wide x), (looked-open (c .before .before .holds .ensures .1) (c .before .before .before .before .before .before .before .before .before .pre .1 .1 .1 .1 .1)))))))
+    (λ c κs. (omega arith, (sym (ap (λ (x : Node). x .what) (c .before .before .before .before .node-at .ensures)) ∙ c .before .before .w4 .given .1, c .before .before .before .before .before .pre .1)))
     (λ c. search needs)
     (λ c κs. let g = while-good (wh t (c .before)) (c .before .before .before .before .before .pre .1 .0) in ((c .before .before .before .before .before .pre .1 .1 .1 .1 .1) .long, (g .0, g .1 .0)))
     (λ c. search needs)
-    (λ c κs. let x = wh t (c .before .before .before .before) in (omega arith, (while-good x (c .before .before .before .before .before .before .before .before .pre .1 .0) .1 .1, (omega arith, (omega (arith, while-wide x), (looked-open (c .before .before .holds2 .ensures .1) (c .before .before .before .before .before .before .before .before .pre .1 .1 .1 .1 .1)))))))
-    (λ c κs. (omega arith, (omega (arith, while-wide (wh t (c .before .before .before .before .before .before)), some-list (listAt (c .before .before .before .before .before .before .before .before .before .before .args .left - 1) (now (c .before .before .before .before .before .before .before .before .before .before .args .t)) (c .before .before .before .before .before .before .before .before .before .before .args .i + 1) (c .before .before .before .before .before .before .before .before .before .before .args .e))), c .before .list3 .ensures .holds .long)))
-    (λ c. while-true (wh t (c .before .before .before .before .before .before .before)) (record { word = c .before .before .before .before .before .before .before .before .before .before .before .args .word; inputs = c .before .before .before .before .before .before .before .before .before .before .before .args .inputs }) (c .before .before .before .before .before .holds2 .ensures .1) (sym (c .before .before .before .before .before .holds2 .ensures .0) ∙ c .before .before .before .before .if2 .taken) (c .before .before .list3 .ensures) (c .looped .ensures))
+    (λ c κs. let x = wh t (c .before .before .before .before) in (omega arith, (while-good x (c .before .before .before .before .before .before .before .before .pre .1 .0) .1 .1, (omega arith, (omega (arith, while-wide x), (looked-open (c .before .before .holds .ensures .1) (c .before .before .before .before .before .before .before .before .pre .1 .1 .1 .1 .1)))))))
+    (λ c κs. (omega arith, (omega (arith, while-wide (wh t (c .before .before .before .before .before .before)), some-list (listAt (c .before .before .before .before .before .before .before .before .before .before .args .left - 1) (now (c .before .before .before .before .before .before .before .before .before .before .args .t)) (c .before .before .before .before .before .before .before .before .before .before .args .i + 1) (c .before .before .before .before .before .before .before .before .before .before .args .e))), c .before .list .ensures .holds .long)))
+    (λ c. while-true (wh t (c .before .before .before .before .before .before .before)) (record { word = c .before .before .before .before .before .before .before .before .before .before .before .args .word; inputs = c .before .before .before .before .before .before .before .before .before .before .before .args .inputs }) (c .before .before .before .before .before .holds .ensures .1) (sym (c .before .before .before .before .before .holds .ensures .0) ∙ c .before .before .before .before .if1 .taken) (c .before .before .list .ensures) (c .looped .ensures))
     (λ c. search needs)
     (λ c. search needs)
     (λ c κs. let x = lo t (c .before) in (omega arith, (loop-good x (c .before .before .before .before .pre .1 .0), (omega arith, (omega (arith, loop-wide x), ((c .before .before .before .before .pre .1 .1 .1 .1 .1)))))))
-    (λ c κs. (omega arith, (omega (arith, loop-wide (lo t (c .before .before .before)), some-list (listAt (c .before .before .before .before .before .before .args .left - 1) (now (c .before .before .before .before .before .before .args .t)) (c .before .before .before .before .before .before .args .i + 1) (c .before .before .before .before .before .before .args .e))), c .before .list4 .ensures .holds .long)))
+    (λ c κs. (omega arith, (omega (arith, loop-wide (lo t (c .before .before .before)), some-list (listAt (c .before .before .before .before .before .before .args .left - 1) (now (c .before .before .before .before .before .before .args .t)) (c .before .before .before .before .before .before .args .i + 1) (c .before .before .before .before .before .before .args .e))), c .before .list2 .ensures .holds .long)))
     (λ c. search needs)
     (λ c. search needs)
     (λ c. search needs)
@@ -283,9 +302,9 @@ unfolding meaning.start startSeen Good meaning.activities onesIn zerosIn
     (λ c. is-as t (c .before .before .before .before .before) (c .before .before .before .w .given .1) (c .delay .ensures (headAt (now (c .before .before .before .before .before .before .args .t)) (c .before .before .before .before .before .before .args .i) .place)))
     (λ c. is-as t (c .before .before .before .before .before) (c .before .before .before .w2 .given .1) (c .change-bit .ensures (c .before .before .before .before .before .before .args .b) (c .before .before .before .before .before .before .args .inputs)))
     (λ c. is-as t (c .before .before .before .before .before) (c .before .before .before .w3 .given .1) (c .assign .ensures (c .before .before .before .before .before .before .args .b)))
-    (λ c. choice-false (ch t (c .before .before .before .before .before)) (record { word = c .before .before .before .before .before .before .before .before .before .before .args .word; inputs = c .before .before .before .before .before .before .before .before .before .before .args .inputs }) (c .before .before .before .holds .ensures .1) (sym (c .before .before .before .holds .ensures .0) ∙ c .before .before .if1 .left) (c .list2 .ensures))
-    (λ c. while-false (wh t (c .before .before .before)) (record { word = c .before .before .before .before .before .before .before .args .word; inputs = c .before .before .before .before .before .before .before .args .inputs }) (c .before .holds2 .ensures .1) (sym (c .before .holds2 .ensures .0) ∙ c .if2 .left))
-    (λ c. loop-is (lo t (c .before .before .before .before)) (record { word = c .before .before .before .before .before .before .before .args .word; inputs = c .before .before .before .before .before .before .before .args .inputs }) (c .before .before .list4 .ensures) (c .looped2 .ensures))
+    (λ c. c .choice .ensures)
+    (λ c. while-false (wh t (c .before .before .before)) (record { word = c .before .before .before .before .before .before .before .args .word; inputs = c .before .before .before .before .before .before .before .args .inputs }) (c .before .holds .ensures .1) (sym (c .before .holds .ensures .0) ∙ c .if1 .left))
+    (λ c. loop-is (lo t (c .before .before .before .before)) (record { word = c .before .before .before .before .before .before .before .args .word; inputs = c .before .before .before .before .before .before .before .args .inputs }) (c .before .before .list2 .ensures) (c .looped2 .ensures))
     (λ c. is-as t (c .before .before) (c .enum-told3 .given .1) (exits-now (now (c .before .before .before .args .o)) (c .before .before .before .args .b) ((c .before .before .before .pre .1 .1 .1 .1 .1) .long)))
     (λ c. is-as t (c .before .before) (c .enum-told4 .given .1) (breaks-now (now (c .before .before .before .args .o)) (c .before .before .before .args .b) ((c .before .before .before .pre .1 .1 .1 .1 .1) .long)))
     (λ c. switch-is (sw t (c .before .before .before)) (record { word = c .before .before .before .before .before .before .args .word; inputs = c .before .before .before .before .before .before .args .inputs }) (c .before .cases .ensures) (c .caught .ensures))
