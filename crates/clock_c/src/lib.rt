@@ -1,7 +1,7 @@
 // The clocks of a source for C: where does a sequence of inputs lead?
 ghost use mathlib.Core.Path.{_≡_};
-ghost use Prim.Native.Nat.{ℕ, _%_};
-ghost use lib.ListN.{length, getD};
+ghost use Prim.Native.Nat.{_%_};
+ghost use lib.ListN.{length};
 ghost use Rattle.nodes.specs.Ready.{Ready};
 ghost use Rattle.clock_c.specs.Ran.{Ran, RunsTo};
 use source::Told;
@@ -9,10 +9,10 @@ use source::Told;
 // The clock's fuel: three for each of 512 statements and case tests.
 const FUEL: u16 = 1536;
 
-fn zeros() -> [u8; 16384]
-    ensures { λ r. ⌜ (length r ≡ 16384) × ((i : ℕ) → getD r i 0 ≡ 0) ⌝ }
+fn area() -> [u8; 32768]
+    ensures { λ r. ⌜ length r ≡ 32768 ⌝ }
 {
-    [0u8; 16384]
+    [0u8; 32768]
 }
 
 // A byte as an input of six bits.
@@ -43,9 +43,8 @@ fn run(tree: &[u8; 16384], n: u16, left: u16, word: u32, inputs: &[u8]) -> u32
 pub extern "C" fn windnadel_clocks(text: &[u8], inputs: &[u8]) -> u64
     ensures { λ r. ⌜ Ran (now (text .entry)) (now (inputs .entry)) r ⌝ }
 {
-    let mut tree = zeros();
-    let mut names = zeros();
-    let told = source::read(text, &mut tree, &mut names);
+    let mut work = area();
+    let told = source::read(text, &mut work);
     match told {
         Told::Fault { number, place } => {
             return 0;
@@ -56,6 +55,7 @@ pub extern "C" fn windnadel_clocks(text: &[u8], inputs: &[u8]) -> u64
             outputs,
             word,
         } => {
+            let tree = source::tree(&work);
             let last = run(&tree, n, FUEL, word, inputs);
             return last as u64;
         }

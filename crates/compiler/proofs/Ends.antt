@@ -2,8 +2,8 @@
 -- Assumes nothing.
 use mathlib.Core.Path.{_≡_, refl, sym, ap, _∙_, subst}
 use mathlib.Core.List.{List, _++_}
-use Prim.Native.Nat.{ℕ, zero, suc, _+_, _*_, _/_, _%_, _^_, _<_, _≤_}
-use lib.ListN.{length, getD, drop, replicate, length-replicate, getD-replicate}
+use Prim.Native.Nat.{ℕ, _+_, _-_, _*_, _/_, _%_, _^_, _<_, _≤_}
+use lib.ListN.{length, getD, take, drop, replicate, length-drop, length-replicate, getD-replicate}
 use lib.Pow.{pow-mono}
 use lib.Seq.{ext-getD}
 use native.Mathlib.Omega.{arith}
@@ -28,14 +28,15 @@ use Rattle.search.proofs.States.{states-length, states-at}
 use Rattle.files.specs.Written.{rowFrom, tableFrom, streamFrom, Small, Wrote}
 use Rattle.files.specs.declared.Filed.{Filed}
 use Rattle.files.specs.declared.Filed.the-variants.{Blocks, Short}
-use Rattle.language.specs.Texts.{refused, Reads}
 use Rattle.language.specs.Tables.{machineOf, Tabled}
 use Rattle.language.specs.Promise.{Ready, allZero, FileOf, Compiles, fault, eleven, twelve, made}
 use Rattle.language.proofs.Fits.{no-fault, few-inputs, few-outputs}
 use Rattle.compiler.specs.Answered.{lent, ended, EndsSo}
 use Rattle.source.specs.Says.{ReadDone}
+use Rattle.source.proofs.Lent.{back, back-rest, back-long}
+use Rattle.parts.proofs.Beside.{whole-rest}
 use Rattle.source.specs.declared.Told.{Told}
-use Rattle.source.specs.declared.Told.the-variants.{Good, Fault}
+use Rattle.source.specs.declared.Told.the-variants.{Fault}
 use Rattle.compiler.specs.declared.Compiled.{Compiled}
 use Rattle.compiler.specs.declared.Compiled.the-variants as compiled
 
@@ -63,6 +64,9 @@ pub record Known (source tree : List ℕ) (task : Task) (k o : ℕ) : Type 0 whe
   pub stored : Stored source tree (task .count) k o (task .word)
   pub fuel : 3 * task .count ≤ task .left
   pub inputs : task .inputs ≡ 2 ^ k
+
+pub known : {source tree : List ℕ} {k o : ℕ} (task : Task) → Stored source tree (task .count) k o (task .word) → 3 * task .count ≤ task .left → task .inputs ≡ 2 ^ k → Known source tree task k o
+known task stored fuel inputs = record { stored = stored; fuel = fuel; inputs = inputs }
 
 module _ {source tree : List ℕ} {task : Task} {k o : ℕ} (g : Known source tree task k o) where
   abbrev p : Program
@@ -130,7 +134,7 @@ module _ {source tree : List ℕ} {task : Task} {k o : ℕ} (g : Known source tr
     fits : length L ≤ task .room
     fits = omega (arith, states-length l n, f .fits)
 
-    pub small : {work buffer : List ℕ} → Ready (lent source (task .room) work buffer) → length l ≡ length work → Small l k o n
+    pub small : {work buffer : List ℕ} → Ready (lent source (task .room) work buffer) → length work ≤ 16384 + length l → Small l k o n
     small r e =
         record { inputs = k-small (g .stored); outputs = o-small (g .stored); states = omega (arith, f .fits, r .room .few); area = omega (arith, f .fits, r .work) }
 
@@ -155,8 +159,8 @@ module _ {source tree : List ℕ} {task : Task} {k o : ℕ} (g : Known source tr
       → Compiles (lent source (task .room) work buffer) (ended (compiled.Refused 11 0) (allZero work) buffer)
   ends-over ready t = eleven ready (g .stored .reads) (subst (λ (m : Machine State). TooMany m (task .room)) machine t)
 
-  pub sized : {work buffer : List ℕ} → Ready (lent source (task .room) work buffer) → Sized (machineIn tree task) (task .room) work
-  sized r = record { few = r .room .few; inputs = omega (arith, g .inputs, few); area = omega (arith, r .work) }
+  pub sized : {work buffer area : List ℕ} → Ready (lent source (task .room) work buffer) → length work ≤ 16384 + length area → Sized (machineIn tree task) (task .room) area
+  sized r e = record { few = r .room .few; inputs = omega (arith, g .inputs, few); area = omega (arith, r .work) }
     where
       few : 2 ^ k ≤ 64
       few = pow-mono {j = 6} (k-small (g .stored))
@@ -173,51 +177,55 @@ wiped l k e z =
     ext-getD 0 l (replicate (length k) 0) (e ∙ sym (length-replicate (length k) 0))
     (λ i h. z i (omega arith) ∙ sym (getD-replicate (length k) i 0 0 (omega arith)))
 
-pub no-tree : (n i : ℕ) → _≡_ {A = ℕ} (getD (replicate n 0) i 0) 0
-no-tree zero i = refl
-no-tree (suc n) zero = refl
-no-tree (suc n) (suc i) = no-tree n i
+-- the part behind the tree
+pub behind-long : (at : ℕ) (work : List ℕ) → at ≤ 16384 → length work ≤ 16384 + length (drop at work)
+behind-long at work h = omega (arith, length-drop at work)
+
+searched-long : (m : Machine State) (room : ℕ) (l k : List ℕ) (r : Turn) → Searched m room l r k → length k ≡ length l
+searched-long m room l k (Goes n) x = x .1
+searched-long m room l k Over x = x .1
+
+-- .. given back after the search
+pub searched-back : (m : Machine State) (room n : ℕ) (xs ys : List ℕ) (h : n ≤ length xs) (r : Turn) → Searched m room (take (length xs - n) (drop n xs)) r ys
+    → Searched m room (drop n xs) r (drop n (back n xs ys h)) × (length (back n xs ys h) ≡ length xs)
+searched-back m room n xs ys h r x =
+    let whole : Searched m room (drop n xs) r ys = subst (λ (l : List ℕ). Searched m room l r ys) (whole-rest n xs) x in
+    (subst (Searched m room (drop n xs) r) (sym (back-rest n xs ys h)) whole, back-long n xs ys h (searched-long m room (drop n xs) ys r whole))
 
 -- ---- what the callees say, and what follows
 
 -- a fault that was read
-pub fault-ends : (source tree : List ℕ) (t : Told) {room number place : ℕ} {work buffer : List ℕ} → ReadDone source tree t → t ≡ Fault number place
+pub fault-ends : (source area : List ℕ) (t : Told) {room number place : ℕ} {work buffer : List ℕ} → ReadDone source area t → t ≡ Fault number place
     → Ready (lent source room work buffer) → EndsSo source room (length work) buffer (compiled.Refused number place) buffer
-fault-ends source tree t d e r w h = fault (ready-for w h r) (subst (ReadDone source tree) e d)
-
--- a program that was read
-pub good-stored : (source tree : List ℕ) (t : Told) {n k o word : ℕ} → ReadDone source tree t → t ≡ Good n k o word → Stored source tree n k o word
-good-stored source tree t d e = subst (ReadDone source tree) e d
+fault-ends source area t d e r w h = fault (ready-for w h r) (subst (ReadDone source area) e d)
 
 module _ {source tree : List ℕ} {task : Task} {k o : ℕ} (g : Known source tree task k o) {work buffer : List ℕ} (ready : Ready (lent source (task .room) work buffer))
-    (r : Turn) (l : List ℕ) (s : Searched (machineIn tree task) (task .room) work r l) where
+    (area : List ℕ) (behind : length work ≤ 16384 + length area) (r : Turn) (l : List ℕ) (s : Searched (machineIn tree task) (task .room) area r l) where
   -- more states than the room
-  pub over-so : r ≡ Over → (q : Compiled) → q ≡ compiled.Refused 11 0 → EndsSo source (task .room) (length work) buffer q buffer × (length l ≡ length work)
-  over-so e q is =
-      let (t, long) = subst (λ (x : Turn). Searched (machineIn tree task) (task .room) work x l) e s in
-      (λ w h. rw is (ends-over g (ready-for w h ready) t), long)
+  pub over-so : r ≡ Over → (q : Compiled) → q ≡ compiled.Refused 11 0 → EndsSo source (task .room) (length work) buffer q buffer
+  over-so e q is w h = let (t, long) = subst (λ (x : Turn). Searched (machineIn tree task) (task .room) area x l) e s in rw is (ends-over g (ready-for w h ready) t)
 
   module _ (n : ℕ) (e : r ≡ Goes n) where
-    found : Found (machineIn tree task) (task .room) l n × (length l ≡ length work)
-    found = subst (λ (x : Turn). Searched (machineIn tree task) (task .room) work x l) e s
+    found : Found (machineIn tree task) (task .room) l n × (length l ≡ length area)
+    found = subst (λ (x : Turn). Searched (machineIn tree task) (task .room) area x l) e s
 
     pub few-states : n < 65536
     few-states = omega (arith, found .0 .fits, ready .room .few)
 
     pub small-so : Small l k o n
-    small-so = small g (found .0) ready (found .1)
+    small-so = small g (found .0) ready (omega (arith, behind, found .1))
 
     module _ (f : Filed) (after : List ℕ) (w : Wrote buffer (fileOf (streamFrom l k o n)) f after) where
       -- a buffer that is too short
-      pub short-so : f ≡ Short → (q : Compiled) → q ≡ compiled.Refused 12 0 → EndsSo source (task .room) (length work) buffer q after × (length l ≡ length work)
-      short-so d q is = (λ x h. rw (is, same .1) (ends-short g (found .0) (ready-for x h ready) (same .0)), found .1)
+      pub short-so : f ≡ Short → (q : Compiled) → q ≡ compiled.Refused 12 0 → EndsSo source (task .room) (length work) buffer q after
+      short-so d q is x h = rw (is, same .1) (ends-short g (found .0) (ready-for x h ready) (same .0))
         where
           same : (length buffer < length (fileOf (streamFrom l k o n))) × (after ≡ buffer)
           same = subst (λ (x : Filed). Wrote buffer (fileOf (streamFrom l k o n)) x after) d w
 
       -- a file
-      pub made-so : (b : ℕ) → f ≡ Blocks b → EndsSo source (task .room) (length work) buffer (compiled.Made n b) after × (length l ≡ length work)
-      made-so b d = (λ x h. ends-made g (found .0) (ready-for x h ready) b after (is .0) (is .1) (is .2), found .1)
+      pub made-so : (b : ℕ) → f ≡ Blocks b → EndsSo source (task .room) (length work) buffer (compiled.Made n b) after
+      made-so b d x h = ends-made g (found .0) (ready-for x h ready) b after (is .0) (is .1) (is .2)
         where
           is : (length (fileOf (streamFrom l k o n)) ≤ length buffer)
               × (after ≡ fileOf (streamFrom l k o n) ++ drop (length (fileOf (streamFrom l k o n))) buffer)

@@ -1,7 +1,7 @@
 // The compile call: what is refused, the search, the file, and the work area all zero at the end.
 ghost use mathlib.Core.Path.{_≡_};
-ghost use Prim.Native.Nat.{ℕ, _*_, _^_, _≤_};
-ghost use lib.ListN.{length, getD, replicate};
+ghost use Prim.Native.Nat.{_*_, _^_, _≤_};
+ghost use lib.ListN.{length, replicate};
 ghost use Rattle.stored.specs.Stored.{Stored};
 ghost use Rattle.language.specs.Promise.{Compiles, Ready};
 ghost use Rattle.compiler.specs.Answered.{lent, ended, EndsSo};
@@ -10,6 +10,8 @@ use files::Filed;
 use search::Task;
 use search::Turn;
 use source::Told;
+
+mod behind;
 
 // The clock's fuel: three for each of 512 statements and case tests.
 const FUEL: u16 = 1536;
@@ -37,13 +39,7 @@ fn wipe(work: &mut [u8])
     }
 }
 
-fn no_tree() -> [u8; 16384]
-    ensures { λ r. ⌜ (length r ≡ 16384) × ((i : ℕ) → getD r i 0 ≡ 0) ⌝ }
-{
-    [0u8; 16384]
-}
-
-// The states and the file of a program that is stored, with so many inputs and outputs.
+// The states and the file of a program that is stored, with so many inputs and outputs; the work area is free from `at` on.
 fn finish(
     source: &[u8],
     tree: &[u8; 16384],
@@ -51,19 +47,20 @@ fn finish(
     inputs: u32,
     outputs: u32,
     work: &mut [u8],
+    at: usize,
     file: &mut [u8],
 ) -> Compiled
-    requires { ⌜ Stored (now source) (now tree) (task .count) inputs outputs (task .word) × (3 * task .count ≤ task .left) × (task .inputs ≡ 2 ^ inputs) × Ready (lent (now source) (task .room) (now work) (now file)) ⌝ }
+    requires { ⌜ Stored (now source) (now tree) (task .count) inputs outputs (task .word) × (3 * task .count ≤ task .left) × (task .inputs ≡ 2 ^ inputs) × Ready (lent (now source) (task .room) (now work) (now file)) × (at ≤ 16384) ⌝ }
     ensures { λ r. ⌜ EndsSo (now (source .entry)) (task .room) (length (now (work .entry))) (now (file .entry)) r (now (file .exit)) × (length (now (work .exit)) ≡ length (now (work .entry))) ⌝ }
 {
-    let found = search::search(tree, work, task);
+    let found = behind::search(tree, work, at, task);
     match found {
         Turn::Over => {
             return refused(11);
         }
         Turn::Goes(n) => {
             let states = n as u32;
-            let filed = files::write_file(work, inputs, outputs, states, file);
+            let filed = behind::write_file(work, at, inputs, outputs, states, file);
             match filed {
                 Filed::Short => {
                     return refused(12);
@@ -84,8 +81,7 @@ fn answer(source: &[u8], room: u32, work: &mut [u8], file: &mut [u8]) -> Compile
     requires { ⌜ Ready (lent (now source) room (now work) (now file)) ⌝ }
     ensures { λ r. ⌜ EndsSo (now (source .entry)) room (length (now (work .entry))) (now (file .entry)) r (now (file .exit)) × (length (now (work .exit)) ≡ length (now (work .entry))) ⌝ }
 {
-    let mut tree = no_tree();
-    let told = source::read(source, &mut tree, work);
+    let told = source::read(source, work);
     match told {
         Told::Fault { number, place } => {
             return Compiled::Refused { number, place };
@@ -96,6 +92,7 @@ fn answer(source: &[u8], room: u32, work: &mut [u8], file: &mut [u8]) -> Compile
             outputs,
             word,
         } => {
+            let tree = source::tree(work);
             let task = Task {
                 count: n,
                 left: FUEL,
@@ -103,7 +100,7 @@ fn answer(source: &[u8], room: u32, work: &mut [u8], file: &mut [u8]) -> Compile
                 inputs: files::pow2(inputs) as u32,
                 room: room as usize,
             };
-            return finish(source, &tree, task, inputs, outputs, work, file);
+            return finish(source, &tree, task, inputs, outputs, work, 16384, file);
         }
     }
 }

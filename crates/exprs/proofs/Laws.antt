@@ -5,7 +5,7 @@ use mathlib.Core.Path.{_≡_, refl, sym, _∙_, ap, subst}
 use mathlib.Core.List.{List, [], _∷_, cons≢nil}
 use native.Mathlib.Numerals.{add-one}
 use lib.Dec.{eqb}
-use lib.ListN.{getElem?}
+use lib.ListN.{length, getElem?}
 use Rattle.meaning.specs.Tree.{Expr, literal, truth, variable, bit, not, int}
 use Rattle.meaning.specs.Declared.{asBit}
 use native.Mathlib.Decide.{decLt}
@@ -22,9 +22,10 @@ use Rattle.parts.specs.declared.Got.{Got}
 use Rattle.exprs.specs.declared.How.the-variants.{Operand, Between, Before}
 use Rattle.exprs.specs.Choose.{IsHow, operandRow, strengthOf}
 use Rattle.parts.specs.Sum.{Sum, sumOf, sum, counted, leafSum, aroundSum, joinSum, nameSum, bitSum}
+use Rattle.parts.specs.Beside.{beside}
 use Rattle.exprs.specs.Came.{Tells, Came, PlainCame}
 use Rattle.hand.proofs.Chosen.{called-by, called-row, Pick}
-use Rattle.parts.proofs.Small.{put-length}
+use Rattle.parts.proofs.Beside.{same-size, put-beside}
 use Rattle.exprs.proofs.Small.{no-strength}
 use Rattle.exprs.proofs.Chosen.{operand-rows, index-rows, further-ends, further-on, before-here, before-not, strength-past, join-op}
 use mathlib.Core.Option.{Option, none, some}
@@ -34,7 +35,6 @@ use Prim.Native.String.{String}
 use Rattle.language.specs.Words.{same, the}
 use Rattle.words.specs.Runs.{part}
 use native.Mathlib.Omega.{arith}
-use lib.ListN.{length}
 use Rattle.language.specs.Words as Language
 use Rattle.hand.specs.declared.Here.{Here}
 use Rattle.hand.specs.Along.{Along, Same, Stands, Near, Begins}
@@ -52,8 +52,17 @@ int-sum : (look : List ℕ → Option Variable) (x : Expr Name) (m : Notes) (t :
 unfolding sum
 int-sum look x m t p = refl
 
-long-of : {a b : Sum} → a ≡ b → length (a .bytes) ≡ length (b .bytes)
-long-of e = ap (λ (x : Sum). length (x .bytes)) e
+kept-of : {a b : Sum} → a ≡ b → beside (a .bytes) ≡ beside (b .bytes)
+kept-of e = ap (λ (x : Sum). beside (x .bytes)) e
+
+-- the number of bytes stays
+pub came-long : {look : List ℕ → Option Variable} {s : List ℕ} {n k : ℕ} {h : Here} {m : Notes} {t u : List ℕ} {r : Got} → Came look s n k h m t u r → length u ≡ length t
+unfolding beside
+came-long came = same-size (came .kept)
+
+pub plain-long : {look : List ℕ → Option Variable} {s : List ℕ} {n : ℕ} {h : Here} {m : Notes} {t u : List ℕ} {r : Got} → PlainCame look s n h m t u r → length u ≡ length t
+unfolding beside
+plain-long came = same-size (came .kept)
 
 strong : (n : ℕ) → n < 6 → n ≡ 255 → ⊥
 strong n h e = omega arith
@@ -82,7 +91,7 @@ module _ {look : List ℕ → Option Variable} {s : List ℕ} where
   module _ {n k : ℕ} {h : Here} {m : Notes} {t : List ℕ} where
     -- an operator before its operand that is not there
     pub before-skip : {op : ℕ} {u : List ℕ} {r : Got} → n < 6 → IsHow (getElem? binding n) (Before op) → ¬ (h .kind ≡ op) → Came look s (n + 1) k h m t u r → Came look s n k h m t u r
-    before-skip {op} {u} {r} low how no-op came = record { near = came .near; later = came .later; long = came .long; told = told }
+    before-skip {op} {u} {r} low how no-op came = record { near = came .near; later = came .later; kept = came .kept; told = told }
       where
         go : (ws : List Language.Word) → Stands s h ws → (e : ℕ) (v : Expr Name) (rest : List Language.Word) (o : Option Strength) (i : ℕ) → getElem? binding n ≡ o → IsHow o (Before op)
             → Called (Tier n) ws i → TierRow e n k ws v rest o i → Tells look s v rest m t u r
@@ -98,7 +107,7 @@ module _ {look : List ℕ → Option Variable} {s : List ℕ} where
 
     -- .. that is there, with no level left
     pub before-deep : {op : ℕ} {r : Got} → n < 6 → IsHow (getElem? binding n) (Before op) → h .kind ≡ op → k ≡ 0 → Near s h → r .word ≡ h → Came look s n k h m t t r
-    before-deep {op} {r} low how yes-op none-left near w = record { near = rw w near; later = rw w (omega arith); long = refl; told = told }
+    before-deep {op} {r} low how yes-op none-left near w = record { near = rw w near; later = rw w (omega arith); kept = refl; told = told }
       where
         go : (ws : List Language.Word) → Stands s h ws → (e : ℕ) (v : Expr Name) (rest : List Language.Word) (o : Option Strength) (i : ℕ) → getElem? binding n ≡ o → IsHow o (Before op)
             → Called (Tier n) ws i → TierRow e n k ws v rest o i → Tells look s v rest m t t r
@@ -117,7 +126,7 @@ module _ {look : List ℕ → Option Variable} {s : List ℕ} where
         → Came look s n (k - 1) h₁ (counted m (h .place)) t u₁ g → r .word ≡ g .word → sumOf r u ≡ aroundSum m (sumOf g u₁) 7 (h .place) true 0 → Came look s n k h m t u r
     unfolding aroundSum
     before-on {op} {h₁} {u₁} {u} {g} {r} low how yes-op near begins came w sums =
-        record { near = rw w (came .near); later = rw w (omega (arith, near .on, begins .later, came .later)); long = ap (λ (x : Sum). length (x .bytes)) sums ∙ put-length u₁ _ _ _ _ _ _ ∙ came .long; told = told }
+        record { near = rw w (came .near); later = rw w (omega (arith, near .on, begins .later, came .later)); kept = kept-of sums ∙ put-beside u₁ _ _ _ _ _ _ ∙ came .kept; told = told }
       where
         go : (ws : List Language.Word) → Stands s h ws → (e : ℕ) (v : Expr Name) (rest : List Language.Word) (o : Option Strength) (i : ℕ) → getElem? binding n ≡ o → IsHow o (Before op)
             → Called (Tier n) ws i → TierRow e n k ws v rest o i → Tells look s v rest m t u r
@@ -152,18 +161,18 @@ pub record Reached (look : List ℕ → Option Variable) (s : List ℕ) (n k : �
 pub record Going (look : List ℕ → Option Variable) (s : List ℕ) (n k : ℕ) (left₀ : Got) (t₀ : List ℕ) (left : Got) (u : List ℕ) : Type 0 where
   pub near : Near s (left .word)
   pub later : left₀ .word .place ≤ left .word .place
-  pub long : length u ≡ length t₀
+  pub kept : beside u ≡ beside t₀
   pub going : (mid : List Language.Word) → Stands s (left₀ .word) mid → (f : ℕ) (g : Expr Name → Expr Name) (rest : List Language.Word) → Told f (Further n) k mid g rest
       → (m : Notes) (t : List ℕ) (x : Expr Name) → sumOf left₀ t₀ ≡ sum look x m t → Reached look s n k left u g rest m t x
 
 module _ {look : List ℕ → Option Variable} {s : List ℕ} {n k : ℕ} where
   pub between-start : {h : Here} {m : Notes} {t t₀ : List ℕ} {left₀ : Got} → Came look s (n + 1) k h m t t₀ left₀ → Going look s n k left₀ t₀ left₀ t₀
-  between-start came = record { near = came .near; later = omega arith; long = refl; going = λ mid st f g rest x m t e q. record { mid = mid; now = e; fuel = f; more = g; word = st; told = x; same = refl; sums = q } }
+  between-start came = record { near = came .near; later = omega arith; kept = refl; going = λ mid st f g rest x m t e q. record { mid = mid; now = e; fuel = f; more = g; word = st; told = x; same = refl; sums = q } }
 
   pub between-ends : {h : Here} {m : Notes} {t t₀ u : List ℕ} {left₀ left : Got} → n < 6 → IsHow (getElem? binding n) Between → ¬ (strengthOf (left .word .kind) ≡ n)
       → Came look s (n + 1) k h m t t₀ left₀ → Going look s n k left₀ t₀ left u → Came look s n k h m t u left
   between-ends {h} {m} {t} {t₀} {u} {left₀} {left} low how other came going =
-      record { near = going .near; later = omega (arith, came .later, going .later); long = going .long ∙ came .long; told = told }
+      record { near = going .near; later = omega (arith, came .later, going .later); kept = going .kept ∙ came .kept; told = told }
     where
       ends : (ws : List Language.Word) (v : Expr Name) (g : Expr Name → Expr Name) (x : Expr Name) (rest : List Language.Word) → v ≡ g x → (z : Reached look s n k left u g rest m t x)
           → (e : ℕ) (i : ℕ) → Called (Further n) (z .mid) i → FurtherRow e n k (z .mid) (z .more) rest i → Tells look s v rest m t u left
@@ -192,7 +201,7 @@ module _ {look : List ℕ → Option Variable} {s : List ℕ} {n k : ℕ} where
       record {
         near = rw w (came .near);
         later = rw w (omega (arith, going .later, going .near .on, begins .later, came .later));
-        long = long-of (sums u) ∙ put-length u₁ _ _ _ _ _ _ ∙ came .long ∙ going .long;
+        kept = kept-of (sums u) ∙ put-beside u₁ _ _ _ _ _ _ ∙ came .kept ∙ going .kept;
         going = goes;
       }
     where
@@ -276,13 +285,13 @@ module _ {look : List ℕ → Option Variable} {s : List ℕ} {n k : ℕ} {h : H
       record {
         near = came .near;
         later = came .later;
-        long = came .long;
+        kept = came .kept;
         told = λ ws st f v rest x. let (g, row) = operand-told s n k h ws f v rest how st x in came .told ws st g k v rest (rw e row);
       }
 
   pub operand-deep : {r : Got} {row : ℕ} → IsHow (getElem? binding n) Operand → row ≡ operandRow (h .kind) → ¬ (row < 4) → k ≡ 0 → Near s h → r .word ≡ h → Came look s n k h m t t r
   operand-deep {r} {row} how e large none-left near w =
-      record { near = rw w near; later = rw w (omega arith); long = refl; told = λ ws st f v rest x. let (g, y) = operand-told s n k h ws f v rest how st x in go ws v rest g row large (rw (← e) at y) }
+      record { near = rw w near; later = rw w (omega arith); kept = refl; told = λ ws st f v rest x. let (g, y) = operand-told s n k h ws f v rest how st x in go ws v rest g row large (rw (← e) at y) }
     where
       go : (ws : List Language.Word) (v : Expr Name) (rest : List Language.Word) (g i : ℕ) → ¬ (i < 4) → OperandRow g k ws v rest i → Tells look s v rest m t t r
       go ws v rest g zero l y = absurd (l (omega arith))
@@ -299,7 +308,7 @@ module _ {look : List ℕ → Option Variable} {s : List ℕ} {n k : ℕ} {h : H
       record {
         near = rw w (b₂ .near);
         later = rw w (omega (arith, near .on, b₁ .later, came .later, came .near .on, b₂ .later));
-        long = came .long;
+        kept = came .kept;
         told = λ ws st f v rest x. let (i, y) = operand-told s n k h ws f v rest how st x in go ws st v rest i (rw (← e, five) at y);
       }
     where
@@ -317,7 +326,7 @@ module _ {look : List ℕ → Option Variable} {s : List ℕ} {n k : ℕ} {h : H
       record {
         near = rw w (b₃ .near);
         later = rw w (omega (arith, near .on, b₁ .later, b₁ .near .on, b₂ .later, came .later, came .near .on, b₃ .later));
-        long = long-of sums ∙ put-length u₁ _ _ _ _ _ _ ∙ came .long;
+        kept = kept-of sums ∙ put-beside u₁ _ _ _ _ _ _ ∙ came .kept;
         told = λ ws st f v rest x. let (i, y) = operand-told s n k h ws f v rest how st x in go ws st v rest i row large five (rw (← e) at y);
       }
     where
@@ -363,7 +372,7 @@ module _ {look : List ℕ → Option Variable} {s : List ℕ} {h : Here} {m : No
   pub plain-number : {row : ℕ} → row ≡ 1 → r .word ≡ a → sumOf r u ≡ leafSum m t 0 (h .value) (h .place) false (h .value) → PlainCame look s row h m t u r
   unfolding leafSum
   plain-number {row} one w sums =
-      record { near = rw w (b .near); later = rw w (omega (arith, near .on, b .later)); long = long-of sums ∙ put-length t _ _ _ _ _ _; told = λ ws st f k v rest x. go ws st v rest f k (rw one at x) }
+      record { near = rw w (b .near); later = rw w (omega (arith, near .on, b .later)); kept = kept-of sums ∙ put-beside t _ _ _ _ _ _; told = λ ws st f k v rest x. go ws st v rest f k (rw one at x) }
     where
       go : (ws : List Language.Word) → Stands s h ws → (v : Expr Name) (rest : List Language.Word) (f k : ℕ) → OperandRow f k ws v rest 1 → Tells look s v rest m t u r
       go ws st v rest f k (x, q, c, d) =
@@ -374,7 +383,7 @@ module _ {look : List ℕ → Option Variable} {s : List ℕ} {h : Here} {m : No
   pub plain-true : {row : ℕ} → row ≡ 2 → r .word ≡ a → sumOf r u ≡ leafSum m t 2 0 (h .place) true 0 → PlainCame look s row h m t u r
   unfolding leafSum
   plain-true {row} two w sums =
-      record { near = rw w (b .near); later = rw w (omega (arith, near .on, b .later)); long = long-of sums ∙ put-length t _ _ _ _ _ _; told = λ ws st f k v rest x. go ws st v rest f k (rw two at x) }
+      record { near = rw w (b .near); later = rw w (omega (arith, near .on, b .later)); kept = kept-of sums ∙ put-beside t _ _ _ _ _ _; told = λ ws st f k v rest x. go ws st v rest f k (rw two at x) }
     where
       go : (ws : List Language.Word) → Stands s h ws → (v : Expr Name) (rest : List Language.Word) (f k : ℕ) → OperandRow f k ws v rest 2 → Tells look s v rest m t u r
       go ws st v rest f k (x, q, d) =
@@ -384,7 +393,7 @@ module _ {look : List ℕ → Option Variable} {s : List ℕ} {h : Here} {m : No
   pub plain-false : {row : ℕ} → row ≡ 3 → r .word ≡ a → sumOf r u ≡ leafSum m t 1 0 (h .place) true 0 → PlainCame look s row h m t u r
   unfolding leafSum
   plain-false {row} three w sums =
-      record { near = rw w (b .near); later = rw w (omega (arith, near .on, b .later)); long = long-of sums ∙ put-length t _ _ _ _ _ _; told = λ ws st f k v rest x. go ws st v rest f k (rw three at x) }
+      record { near = rw w (b .near); later = rw w (omega (arith, near .on, b .later)); kept = kept-of sums ∙ put-beside t _ _ _ _ _ _; told = λ ws st f k v rest x. go ws st v rest f k (rw three at x) }
     where
       go : (ws : List Language.Word) → Stands s h ws → (v : Expr Name) (rest : List Language.Word) (f k : ℕ) → OperandRow f k ws v rest 3 → Tells look s v rest m t u r
       go ws st v rest f k (x, q, d) =
@@ -393,7 +402,7 @@ module _ {look : List ℕ → Option Variable} {s : List ℕ} {h : Here} {m : No
 
   pub plain-name : {row : ℕ} {o : Option Variable} → row ≡ 0 → ¬ (a .kind ≡ 16) → o ≡ look (part s (h .place) (h .next)) → r .word ≡ a → sumOf r u ≡ nameSum m t o (h .place) → PlainCame look s row h m t u r
   plain-name {row} {o} none-row not-index seen w sums =
-      record { near = rw w (b .near); later = rw w (omega (arith, near .on, b .later)); long = long-of sums ∙ put-length t _ _ _ _ _ _; told = λ ws st f k v rest x. go ws st v rest f k (rw none-row at x) }
+      record { near = rw w (b .near); later = rw w (omega (arith, near .on, b .later)); kept = kept-of sums ∙ put-beside t _ _ _ _ _ _; told = λ ws st f k v rest x. go ws st v rest f k (rw none-row at x) }
     where
       ends : (x : Language.Word) (tail : List Language.Word) (j : Option ℕ) (v : Expr Name) (rest : List Language.Word) (i : ℕ) → Same s h x → Along s (h .next) tail → v ≡ nameOrBit (nameAt x) j → Called Index tail i → IndexRow tail j rest i → Tells look s v rest m t u r
       ends x tail j v rest zero same along d p (e, f) =
@@ -410,7 +419,7 @@ module _ {look : List ℕ → Option Variable} {s : List ℕ} {h : Here} {m : No
   pub plain-bit : {row : ℕ} {o : Option Variable} {a₁ a₂ a₃ : Here} → ¬ (row ≡ 1) → ¬ (row ≡ 2) → ¬ (row ≡ 3) → row < 4 → a .kind ≡ 16 → o ≡ look (part s (h .place) (h .next)) → Begins s (a .next) a₁ → Begins s (a₁ .next) a₂ → Begins s (a₂ .next) a₃
       → r .word ≡ a₃ → sumOf r u ≡ bitSum m t o (h .place) (a₁ .value) → PlainCame look s row h m t u r
   plain-bit {row} {o} {a₁} {a₂} {a₃} n₁ n₂ n₃ low index seen b₁ b₂ b₃ w sums =
-      record { near = rw w (b₃ .near); later = rw w (omega (arith, near .on, b .later, b .near .on, b₁ .later, b₁ .near .on, b₂ .later, b₂ .near .on, b₃ .later)); long = long-of sums ∙ put-length t _ _ _ _ _ _; told = λ ws st f k v rest x. go ws st v rest f k (let z : row ≡ 0 = none-left row n₁ n₂ n₃ low in rw z at x) }
+      record { near = rw w (b₃ .near); later = rw w (omega (arith, near .on, b .later, b .near .on, b₁ .later, b₁ .near .on, b₂ .later, b₂ .near .on, b₃ .later)); kept = kept-of sums ∙ put-beside t _ _ _ _ _ _; told = λ ws st f k v rest x. go ws st v rest f k (let z : row ≡ 0 = none-left row n₁ n₂ n₃ low in rw z at x) }
     where
       none-left : (i : ℕ) → ¬ (i ≡ 1) → ¬ (i ≡ 2) → ¬ (i ≡ 3) → i < 4 → i ≡ 0
       none-left i a b c d = omega arith

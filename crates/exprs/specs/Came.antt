@@ -3,8 +3,7 @@
 use mathlib.Core.Path.{_≡_}
 use mathlib.Core.List.{List}
 use mathlib.Core.Option.{Option}
-use Prim.Native.Nat.{ℕ, _*_, _≤_}
-use lib.ListN.{length}
+use Prim.Native.Nat.{ℕ, _+_, _*_, _≤_}
 use Rattle.meaning.specs.Tree.{Expr}
 use Rattle.meaning.specs.Numbers.{Variable}
 use Rattle.language.specs.Words.{Word}
@@ -16,6 +15,7 @@ use Rattle.parts.specs.declared.Notes.{Notes}
 use Rattle.parts.specs.declared.Got.{Got}
 use Rattle.hand.specs.Along.{Stands, Near}
 use Rattle.parts.specs.Sum.{sumOf, sum}
+use Rattle.parts.specs.Beside.{treeBytes, Beside, beside}
 
 -- the words behind stand at the word in hand, and what is noted and written is the sum of the tree
 pub record Tells (look : List ℕ → Option Variable) (s : List ℕ) (v : Expr Name) (rest : List Word) (n : Notes) (t u : List ℕ) (r : Got) : Type 0 where
@@ -26,19 +26,19 @@ pub record Tells (look : List ℕ → Option Variable) (s : List ℕ) (v : Expr 
 pub record Came (look : List ℕ → Option Variable) (s : List ℕ) (tier levels : ℕ) (h : Here) (n : Notes) (t u : List ℕ) (r : Got) : Type 0 where
   pub near : Near s (r .word)
   pub later : h .place ≤ r .word .place
-  pub long : length u ≡ length t
+  pub kept : beside u ≡ beside t
   pub told : (ws : List Word) → Stands s h ws → (f : ℕ) (v : Expr Name) (rest : List Word) → Told f (Tier tier) levels ws v rest → Tells look s v rest n t u r
 
 -- the same of an operand with no level
 pub record PlainCame (look : List ℕ → Option Variable) (s : List ℕ) (row : ℕ) (h : Here) (n : Notes) (t u : List ℕ) (r : Got) : Type 0 where
   pub near : Near s (r .word)
   pub later : h .place ≤ r .word .place
-  pub long : length u ≡ length t
+  pub kept : beside u ≡ beside t
   pub told : (ws : List Word) → Stands s h ws → (f k : ℕ) (v : Expr Name) (rest : List Word) → OperandRow f k ws v rest row → Tells look s v rest n t u r
 
--- the levels fit, the strength is one of the list or the next, and the declared names lie in d
-pub record Ready (s d : List ℕ) (count tier levels : ℕ) (h : Here) : Type 0 where
+-- the levels fit, the strength is one of the list or the next, and the declared names lie behind the tree
+pub record Ready (s : List ℕ) (d : Beside) (count tier levels : ℕ) (h : Here) : Type 0 where
   pub near : Near s h
-  pub listed : count * 4 ≤ length d
+  pub listed : treeBytes + count * 4 ≤ d .size
   pub low : tier ≤ 6
   pub few : levels ≤ 32

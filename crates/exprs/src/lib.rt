@@ -2,6 +2,7 @@
 ghost use lib.ListN.{getElem?};
 ghost use Rattle.language.specs.Grammar.{binding};
 ghost use Rattle.names.specs.Look.{lookIn};
+ghost use Rattle.parts.specs.Beside.{beside};
 ghost use Rattle.exprs.specs.declared.How.the-variants.{Operand, Between};
 ghost use Rattle.exprs.specs.Choose.{IsHow};
 ghost use Rattle.exprs.specs.Came.{Ready, Came};
@@ -49,7 +50,6 @@ fn strength_at(tier: u8) -> How
 // An expression of the operators that bind at `tier` or higher, from the word `first` on, with so many levels left.
 pub fn expr(
     s: &[u8],
-    d: &[u8],
     count: u16,
     t: &mut [u8],
     tier: u8,
@@ -57,27 +57,27 @@ pub fn expr(
     notes: Notes,
     levels: u8,
 ) -> Got
-    requires { ⌜ Ready (now s) (now d) count tier levels first ⌝ }
-    ensures { λ r. ⌜ Came (lookIn (now (s .entry)) (now (d .entry)) count) (now (s .entry)) tier levels first notes (now (t .entry)) (now (t .exit)) r ⌝ }
+    requires { ⌜ Ready (now s) (beside (now t)) count tier levels first ⌝ }
+    ensures { λ r. ⌜ Came (lookIn (now (s .entry)) (beside (now (t .entry)) .names) count) (now (s .entry)) tier levels first notes (now (t .entry)) (now (t .exit)) r ⌝ }
 {
     match strength_at(tier) {
         How::Before(op) => {
             if first.kind != op {
-                return expr(s, d, count, t, tier + 1, first, notes, levels);
+                return expr(s, count, t, tier + 1, first, notes, levels);
             }
             if levels == 0 {
                 return leaves::nothing(first, notes);
             }
             let inner = hand::word_from(s, first.next);
             let n = marks::counted(notes, first.place);
-            let g = expr(s, d, count, t, tier, inner, n, levels - 1);
+            let g = expr(s, count, t, tier, inner, n, levels - 1);
             return leaves::negated(t, notes, first.place, g);
         }
         How::Between => {
-            return between(s, d, count, t, tier, first, notes, levels);
+            return between(s, count, t, tier, first, notes, levels);
         }
         How::Operand => {
-            return operand(s, d, count, t, tier, first, notes, levels);
+            return operand(s, count, t, tier, first, notes, levels);
         }
     }
 }
@@ -85,7 +85,6 @@ pub fn expr(
 // An operand, and those that operators of this strength join to it, from left to right.
 fn between(
     s: &[u8],
-    d: &[u8],
     count: u16,
     t: &mut [u8],
     tier: u8,
@@ -93,10 +92,10 @@ fn between(
     notes: Notes,
     levels: u8,
 ) -> Got
-    requires { ⌜ Ready (now s) (now d) count tier levels first × IsHow (getElem? binding tier) Between ⌝ }
-    ensures { λ r. ⌜ Came (lookIn (now (s .entry)) (now (d .entry)) count) (now (s .entry)) tier levels first notes (now (t .entry)) (now (t .exit)) r ⌝ }
+    requires { ⌜ Ready (now s) (beside (now t)) count tier levels first × IsHow (getElem? binding tier) Between ⌝ }
+    ensures { λ r. ⌜ Came (lookIn (now (s .entry)) (beside (now (t .entry)) .names) count) (now (s .entry)) tier levels first notes (now (t .entry)) (now (t .exit)) r ⌝ }
 {
-    let mut left = expr(s, d, count, t, tier + 1, first, notes, levels);
+    let mut left = expr(s, count, t, tier + 1, first, notes, levels);
     loop {
         let w = left.word;
         let n = left.notes;
@@ -105,7 +104,7 @@ fn between(
         }
         let v = hand::word_from(s, w.next);
         let m = marks::counted(n, w.place);
-        let right = expr(s, d, count, t, tier + 1, v, m, levels);
+        let right = expr(s, count, t, tier + 1, v, m, levels);
         left = leaves::joined(t, w, left, right);
     }
 }
@@ -113,7 +112,6 @@ fn between(
 // An operand.
 fn operand(
     s: &[u8],
-    d: &[u8],
     count: u16,
     t: &mut [u8],
     tier: u8,
@@ -121,25 +119,25 @@ fn operand(
     notes: Notes,
     levels: u8,
 ) -> Got
-    requires { ⌜ Ready (now s) (now d) count tier levels first × IsHow (getElem? binding tier) Operand ⌝ }
-    ensures { λ r. ⌜ Came (lookIn (now (s .entry)) (now (d .entry)) count) (now (s .entry)) tier levels first notes (now (t .entry)) (now (t .exit)) r ⌝ }
+    requires { ⌜ Ready (now s) (beside (now t)) count tier levels first × IsHow (getElem? binding tier) Operand ⌝ }
+    ensures { λ r. ⌜ Came (lookIn (now (s .entry)) (beside (now (t .entry)) .names) count) (now (s .entry)) tier levels first notes (now (t .entry)) (now (t .exit)) r ⌝ }
 {
     let row = rows::operand_row(first.kind);
     if row < 4 {
-        return single::plain(s, d, count, t, row, first, notes);
+        return single::plain(s, count, t, row, first, notes);
     }
     if levels == 0 {
         return leaves::nothing(first, notes);
     }
     let second = hand::word_from(s, first.next);
     if row == 5 {
-        let g = expr(s, d, count, t, 0, second, notes, levels - 1);
+        let g = expr(s, count, t, 0, second, notes, levels - 1);
         let c = g.word;
         return leaves::behind(hand::word_from(s, c.next), g);
     }
     let third = hand::word_from(s, second.next);
     let n = marks::counted(notes, first.place);
-    let g = expr(s, d, count, t, 0, third, n, levels - 1);
+    let g = expr(s, count, t, 0, third, n, levels - 1);
     let c = g.word;
     leaves::int_of(t, notes, first.place, hand::word_from(s, c.next), g)
 }

@@ -4,8 +4,7 @@ use mathlib.Core.Bool.{Bool}
 use mathlib.Core.Path.{_≡_}
 use mathlib.Core.List.{List, _∷_}
 use mathlib.Core.Option.{Option}
-use Prim.Native.Nat.{ℕ, _*_, _≤_}
-use lib.ListN.{length}
+use Prim.Native.Nat.{ℕ, _+_, _*_, _≤_}
 use Rattle.meaning.specs.Tree.{Expr, Stmt, Stmts, Cases, case, Branches, _∥_}
 use Rattle.meaning.specs.Numbers.{Variable}
 use Rattle.language.specs.Words.{Word}
@@ -16,6 +15,7 @@ use Rattle.descent_law.specs.Told.{Told}
 use Rattle.descent_law.specs.Rows.{StatementRow}
 use Rattle.hand.specs.declared.Here.{Here}
 use Rattle.hand.specs.Along.{Stands, Near}
+use Rattle.parts.specs.Beside.{treeBytes, Beside, beside}
 use Rattle.items.specs.declared.Marks.{Marks}
 use Rattle.items.specs.declared.Read.{Read}
 use Rattle.items.specs.declared.Tried.{Tried}
@@ -26,13 +26,13 @@ use Rattle.items.specs.Walk.{Walked, walked, walkedOf, Test, testOf, tes
 -- a statement's node is written, and nothing else is noted
 pub record Finished (i k p a b c d : ℕ) (w : Here) (m : Marks) (t u : List ℕ) (r : Read) : Type 0 where
   pub word : r .word ≡ w
-  pub long : length u ≡ length t
+  pub kept : beside u ≡ beside t
   pub walks : walkedOf r u ≡ finished i k p a b c d (walked m t)
 
 -- a branch that began with the marks m ends behind q
 pub record Branched (m : Marks) (q : Read) (t u : List ℕ) (r : Read) : Type 0 where
   pub word : r .word ≡ q .word
-  pub long : length u ≡ length t
+  pub kept : beside u ≡ beside t
   pub walks : walkedOf r u ≡ branched m (walkedOf q t)
 
 -- ---- the readers
@@ -42,17 +42,17 @@ pub record Tells (s : List ℕ) (rest : List Word) (x : Walked) (u : List ℕ) (
   pub word : Stands s (r .word) rest
   pub walks : walkedOf r u ≡ x
 
--- the word in hand, the declared names and the levels fit
-pub record Ready (s d : List ℕ) (count levels : ℕ) (h : Here) : Type 0 where
+-- the word in hand, the declared names behind the tree and the levels fit
+pub record Ready (s : List ℕ) (d : Beside) (count levels : ℕ) (h : Here) : Type 0 where
   pub near : Near s h
-  pub listed : count * 4 ≤ length d
+  pub listed : treeBytes + count * 4 ≤ d .size
   pub few : levels ≤ 32
 
 -- where a reader is: the word in hand lies later in the text
 pub record On (s : List ℕ) (h : Here) (t u : List ℕ) (w : Here) : Type 0 where
   pub near : Near s w
   pub later : h .place ≤ w .place
-  pub long : length u ≡ length t
+  pub kept : beside u ≡ beside t
 
 -- the same of a test, up to the word behind the one that ends it
 pub record TestTells (s : List ℕ) (rest : List Word) (x : Test) (u : List ℕ) (r : Tried) : Type 0 where

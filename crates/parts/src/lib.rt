@@ -3,6 +3,7 @@ pub mod found;
 pub mod leaves;
 pub mod marks;
 mod operators;
+pub mod seen;
 
 use hand::Here;
 

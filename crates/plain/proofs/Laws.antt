@@ -8,7 +8,6 @@ use Prim.Native.Nat.{ℕ, zero, suc, _≤_, _<_}
 use native.Mathlib.Omega.{arith}
 use native.Mathlib.Decide.{decLt}
 use lib.Dec.{eqb, ltb}
-use lib.ListN.{length}
 use borrow.Author.Tests.{ne-eqb, le-ltb}
 use Rattle.ll1.proofs.Sets.{clash}
 use Rattle.meaning.specs.Numbers.{Variable}
@@ -26,6 +25,7 @@ use Rattle.hand.specs.declared.Here.{Here}
 use Rattle.parts.specs.declared.Got.{Got}
 use Rattle.hand.specs.Along.{Stands, Near, Begins}
 use Rattle.parts.specs.Sum.{Sum, sumOf, sum, numberOf, widthOf}
+use Rattle.parts.specs.Beside.{beside}
 use Rattle.exprs.specs.Came as expression
 use Rattle.exprs.proofs.Laws.{first-is}
 use Rattle.items.specs.declared.Marks.{Marks}
@@ -44,7 +44,7 @@ test-sum look e p m m₁ t x q r = rw (r, q) refl
 pub test-came : {look : List ℕ → Option Variable} {s : List ℕ} {k : ℕ} {h : Here} {m : Marks} {p : ℕ} {t u : List ℕ} {g : Got} {a : Here} {m₁ : Marks} {r : Tried}
     → Near s h → expression.Came look s 0 k h (m .notes) t u g → Begins s (g .word .next) a → ((z : List ℕ) → m₁ ≡ tested m (sumOf g z) p) → r ≡ record { word = a; marks = m₁; root = g .root; looks = g .looks } → TestCame look s k h m p t u r
 test-came {look} {s} {k} {h} {m} {p} {t} {u} {g} {a} {m₁} {r} near came after e w =
-    record { on = record { near = rw w (after .near); later = rw w (omega (arith, came .later, came .near .on, after .later)); long = came .long }; told = go }
+    record { on = record { near = rw w (after .near); later = rw w (omega (arith, came .later, came .near .on, after .later)); kept = came .kept }; told = go }
   where
     go : (ws : List Word) → Stands s h ws → (f : ℕ) (x : Expr Name) (c : Word) (rest : List Word) → Told f Expression k ws x (c ∷ rest) → TestTells s rest (testAt look x p (walked m t)) u r
     go ws st f x c rest y =
@@ -107,8 +107,8 @@ change-rows f k ws v rest (suc (suc (suc (suc (suc i))))) a b x = absurd (omega 
 second-later : {s : List ℕ} {h a : Here} → Near s h → Begins s (h .next) a → h .place ≤ a .place
 second-later near second = omega (arith, near .on, second .later)
 
-on-of : {s : List ℕ} {h : Here} {i κ p x y z d : ℕ} {w : Here} {m₂ : Marks} {t t₁ u : List ℕ} {r : Read} → Finished i κ p x y z d w m₂ t₁ u r → length t₁ ≡ length t → Near s w → h .place ≤ w .place → On s h t u (r .word)
-on-of fin long n later = record { near = rw (fin .word) n; later = rw (fin .word) later; long = fin .long ∙ long }
+on-of : {s : List ℕ} {h : Here} {i κ p x y z d : ℕ} {w : Here} {m₂ : Marks} {t t₁ u : List ℕ} {r : Read} → Finished i κ p x y z d w m₂ t₁ u r → beside t₁ ≡ beside t → Near s w → h .place ≤ w .place → On s h t u (r .word)
+on-of fin kept n later = record { near = rw (fin .word) n; later = rw (fin .word) later; kept = fin .kept ∙ kept }
 
 module _ {look : List ℕ → Option Variable} {s : List ℕ} {k : ℕ} {l b : Bool} {h : Here} {m m₁ : Marks} {row : ℕ} {a : Here} (near : Near s h) (counts : m₁ ≡ begun m (h .place)) (second : Begins s (h .next) a) where
   -- a statement of one word
@@ -146,7 +146,7 @@ module _ {look : List ℕ → Option Variable} {s : List ℕ} {k : ℕ} {l b : B
       → o ≡ look (words.part s (h .place) (h .next)) → low ≡ numberOf o → width ≡ widthOf o → ((z : List ℕ) → m₂ ≡ assigned m₁ (sumOf g z) o (h .place))
       → Finished (m .nodes) 5 (h .place) low width (g .looks) (g .root) (g .word) m₂ u₁ u r → RowCame look s k l b row h m t u r
   plain-assign {t} {u₁} {u} {r} {g} {a₁} {m₂} {o} {low} {width} q third came seen e₁ e₂ e₃ fin =
-      record { on = on-of fin (came .long) (came .near) (omega (arith, (second-later near second), second .near .on, third .later, came .later)); told = λ ws st f v rest x. go ws st f v rest (rw q at x) }
+      record { on = on-of fin (came .kept) (came .near) (omega (arith, (second-later near second), second .near .on, third .later, came .later)); told = λ ws st f v rest x. go ws st f v rest (rw q at x) }
     where
       go : (ws : List Word) → Stands s h ws → (f : ℕ) (v : Stmt Name) (rest : List Word) → StatementRow f k ws v rest 5 → Tells s rest (walk look v l b (walked m t)) u r
       go ws st f v rest (x, c, tail, ex, y, z, d) =

@@ -3,6 +3,7 @@ ghost use mathlib.Core.Path.{_≡_};
 ghost use mathlib.Core.Bool.{Bool, true};
 ghost use Prim.Native.Nat.{_≤_, _<_};
 ghost use Rattle.names.specs.Look.{lookIn};
+ghost use Rattle.parts.specs.Beside.{beside};
 ghost use Rattle.items.specs.Walk.{isPlain};
 ghost use Rattle.items.specs.Came.{Ready, TestCame, RowCame};
 use hand::Here;
@@ -13,7 +14,6 @@ use items::Tried;
 // A test from its first word on, and the word behind it; a fault 7 is at p.
 pub fn test(
     s: &[u8],
-    d: &[u8],
     count: u16,
     t: &mut [u8],
     first: Here,
@@ -21,11 +21,11 @@ pub fn test(
     p: u16,
     levels: u8,
 ) -> Tried
-    requires { ⌜ Ready (now s) (now d) count levels first ⌝ }
-    ensures { λ r. ⌜ TestCame (lookIn (now (s .entry)) (now (d .entry)) count) (now (s .entry)) levels first marks p (now (t .entry)) (now (t .exit)) r ⌝ }
+    requires { ⌜ Ready (now s) (beside (now t)) count levels first ⌝ }
+    ensures { λ r. ⌜ TestCame (lookIn (now (s .entry)) (beside (now (t .entry)) .names) count) (now (s .entry)) levels first marks p (now (t .entry)) (now (t .exit)) r ⌝ }
 {
     let n = marks.notes;
-    let g = exprs::expr(s, d, count, t, 0, first, n, levels);
+    let g = exprs::expr(s, count, t, 0, first, n, levels);
     let w = g.word;
     let after = hand::word_from(s, w.next);
     let m = items::noted::tested(marks, g, p);
@@ -40,7 +40,6 @@ pub fn test(
 // `raise`, `lower`, `invert`.
 fn change(
     s: &[u8],
-    d: &[u8],
     count: u16,
     t: &mut [u8],
     row: u8,
@@ -48,14 +47,14 @@ fn change(
     marks: Marks,
     levels: u8,
 ) -> Read
-    requires { ⌜ (2 ≤ row) × (row < 5) × Ready (now s) (now d) count levels first ⌝ }
-    ensures { λ r. ⌜ ((l b : Bool) → RowCame (lookIn (now (s .entry)) (now (d .entry)) count) (now (s .entry)) levels l b row first marks (now (t .entry)) (now (t .exit)) r) ⌝ }
+    requires { ⌜ (2 ≤ row) × (row < 5) × Ready (now s) (beside (now t)) count levels first ⌝ }
+    ensures { λ r. ⌜ ((l b : Bool) → RowCame (lookIn (now (s .entry)) (beside (now (t .entry)) .names) count) (now (s .entry)) levels l b row first marks (now (t .entry)) (now (t .exit)) r) ⌝ }
 {
     let i = marks.nodes;
     let m = items::noted::begun(marks, first.place);
     let open = hand::word_from(s, first.next);
     let name = hand::word_from(s, open.next);
-    let v = names::look::find(s, d, count, name.place, name.next);
+    let v = parts::seen::find(s, t, count, name.place, name.next);
     let low = parts::found::number_of(v);
     let width = items::targets::width_of(v);
     let after = hand::word_from(s, name.next);
@@ -72,17 +71,9 @@ fn change(
 }
 
 // An assignment.
-fn assign(
-    s: &[u8],
-    d: &[u8],
-    count: u16,
-    t: &mut [u8],
-    first: Here,
-    marks: Marks,
-    levels: u8,
-) -> Read
-    requires { ⌜ Ready (now s) (now d) count levels first ⌝ }
-    ensures { λ r. ⌜ ((l b : Bool) → RowCame (lookIn (now (s .entry)) (now (d .entry)) count) (now (s .entry)) levels l b 5 first marks (now (t .entry)) (now (t .exit)) r) ⌝ }
+fn assign(s: &[u8], count: u16, t: &mut [u8], first: Here, marks: Marks, levels: u8) -> Read
+    requires { ⌜ Ready (now s) (beside (now t)) count levels first ⌝ }
+    ensures { λ r. ⌜ ((l b : Bool) → RowCame (lookIn (now (s .entry)) (beside (now (t .entry)) .names) count) (now (s .entry)) levels l b 5 first marks (now (t .entry)) (now (t .exit)) r) ⌝ }
 {
     let i = marks.nodes;
     let p = first.place;
@@ -90,9 +81,9 @@ fn assign(
     let n = m.notes;
     let second = hand::word_from(s, first.next);
     let third = hand::word_from(s, second.next);
-    let g = exprs::expr(s, d, count, t, 0, third, n, levels);
+    let g = exprs::expr(s, count, t, 0, third, n, levels);
     let w = g.word;
-    let v = names::look::find(s, d, count, p, first.next);
+    let v = parts::seen::find(s, t, count, p, first.next);
     let low = parts::found::number_of(v);
     let width = items::targets::width_of(v);
     let k = items::targets::assigned(m, g, v, p);
@@ -102,7 +93,6 @@ fn assign(
 // A statement with no statement inside, by its row.
 pub fn plain(
     s: &[u8],
-    d: &[u8],
     count: u16,
     t: &mut [u8],
     row: u8,
@@ -112,11 +102,11 @@ pub fn plain(
     br: bool,
     levels: u8,
 ) -> Read
-    requires { ⌜ (isPlain row ≡ true) × Ready (now s) (now d) count levels first ⌝ }
-    ensures { λ r. ⌜ RowCame (lookIn (now (s .entry)) (now (d .entry)) count) (now (s .entry)) levels lp br row first marks (now (t .entry)) (now (t .exit)) r ⌝ }
+    requires { ⌜ (isPlain row ≡ true) × Ready (now s) (beside (now t)) count levels first ⌝ }
+    ensures { λ r. ⌜ RowCame (lookIn (now (s .entry)) (beside (now (t .entry)) .names) count) (now (s .entry)) levels lp br row first marks (now (t .entry)) (now (t .exit)) r ⌝ }
 {
     if row == 5 {
-        return assign(s, d, count, t, first, marks, levels);
+        return assign(s, count, t, first, marks, levels);
     }
     let i = marks.nodes;
     let p = first.place;
@@ -138,5 +128,5 @@ pub fn plain(
         let k = items::noted::delayed(m, second.value, second.place);
         return written::finish(t, i, 1, p, after, k, second.place, second.value, 0, 0);
     }
-    change(s, d, count, t, row, first, marks, levels)
+    change(s, count, t, row, first, marks, levels)
 }

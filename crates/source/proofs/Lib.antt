@@ -1,4 +1,5 @@
 pub mod Text
+pub mod Lent
 pub mod Entered
 pub mod Notes
 pub mod Declared

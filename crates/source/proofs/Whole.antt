@@ -4,8 +4,7 @@ use mathlib.Core.Bool.{false}
 use mathlib.Core.Path.{_≡_, refl, sym, _∙_, ap, subst}
 use mathlib.Core.List.{List, [], _++_, map, append-assoc}
 use mathlib.Core.Option.{Option, none}
-use Prim.Native.Nat.{ℕ, min}
-use native.Mathlib.Omega.{arith}
+use Prim.Native.Nat.{ℕ, _≤_, _<_, min}
 use lib.ListN.{length, getD, drop}
 use Rattle.file_law.specs.Table.{mostInputs, mostOutputs}
 use Rattle.meaning.specs.Checked.{programOf}
@@ -23,12 +22,14 @@ use Rattle.tree_law.proofs.Program.{Program, holds-program}
 use Rattle.names.specs.Look.{lookIn}
 use Rattle.decls.specs.declared.Read as declared
 use Rattle.items.specs.declared.Read.{Read}
-use Rattle.items.specs.Walk.{startMarks, walked}
+use Rattle.items.specs.Walk.{startMarks, Walked, walked}
 use Rattle.items.specs.Came.{All}
 use Rattle.source.specs.Settled.{settledBy, faultIn}
+use Rattle.source.specs.Area.{treeOf}
 use Rattle.source.specs.declared.Answer.{Answer}
 use Rattle.source.specs.declared.Answer.the-variants.{Good, Refused}
 use Rattle.source.proofs.Entered.{Entered}
+use Rattle.source.proofs.Lent.{tree-at}
 use Rattle.source.proofs.Notes.{Noted, fault-is, noted-append}
 use Rattle.source.proofs.Declared.{source, sizes, declared-six, declared-nine, look-whole, inputs-are, outputs-are, word-are}
 use Rattle.source.proofs.Body.{walk-is, body-six, body-seven, body-eight, body-nine, body-ten}
@@ -62,14 +63,14 @@ module _ {s t u : List ℕ} {r : declared.Read} (x : Entered s t u r) {z y : Lis
     pub refused-told : (number place : ℕ) → o ≡ Refused number place → Reads s (refused number place)
     refused-told number place e = tree (x .short) (x .cut) (x .derived) (told-is ∙ ap faultIn e)
 
-    pub good-told : o ≡ Good → length z ≡ 16384 → ((i : ℕ) → getD z i 0 ≡ 0) → Stored s y (b .marks .nodes) (r .marks .inputs) (r .marks .outputs) (r .marks .word)
+    pub good-told : o ≡ Good → 16384 ≤ length z → ((q : ℕ) → q < 8192 → getD z q 0 ≡ 0) → Stored s (treeOf y) (b .marks .nodes) (r .marks .inputs) (r .marks .outputs) (r .marks .word)
     unfolding programOf
     good-told e long zeros =
         let f : faultOf (source x) ≡ none = told-is ∙ ap faultIn e in
         let reads : Reads s (good (source x)) = fine (x .short) (x .cut) (x .derived) f in
         let n = sized (source x) (none-exactly (source x) .0 f .sizes) in
-        let k = holds-program (source x) f (formed reads) startMarks z refl refl (omega (arith, long)) zeros (lookIn s u (r .marks .names)) (look-whole x (n .inputs) (n .bits)) in
-        let q : Program (source x) (walked (b .marks) y) = subst (Program (source x)) (sym (walk-is x a)) k in
+        let k = holds-program (source x) f (formed reads) startMarks z refl refl long zeros (lookIn s u (r .marks .names)) (look-whole x (n .inputs) (n .bits)) (treeOf y) (λ q h. tree-at y q h ∙ ap (λ (w : Walked). getD (w .bytes) q 0) (walk-is x a)) in
+        let q : Program (source x) (walked (b .marks) (treeOf y)) = subst (λ (w : Walked). Program (source x) (walked (w .marks) (treeOf y))) (sym (walk-is x a)) k in
         record {
           says = source x;
           reads = reads;

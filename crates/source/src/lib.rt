@@ -1,11 +1,14 @@
 // What a text says: refused with 3 to 10, or a program, whose tree lies in lent bytes.
 ghost use mathlib.Core.Path.{_≡_};
-ghost use Prim.Native.Nat.{ℕ, _≤_};
-ghost use lib.ListN.{length, getD};
+ghost use Prim.Native.Nat.{_≤_};
+ghost use lib.ListN.{length};
 ghost use Rattle.source.specs.Settled.{settledBy, faultIn};
+ghost use Rattle.source.specs.Area.{treeOf};
 ghost use Rattle.source.specs.Says.{Says, ReadDone};
 use grammar::Checked;
 use parts::marks;
+
+mod area;
 
 // A program without a fault; or a refusal with its number and place.
 pub enum Answer {
@@ -64,17 +67,18 @@ fn settle(six: u16, seven: u16, eight: u16, nine: u16, ten: u16) -> Answer
     Answer::Good
 }
 
-// Reads a text into a tree of 16,384 zero bytes; the names that it declares lie in the area.
-pub fn read(s: &[u8], tree: &mut [u8], area: &mut [u8]) -> Told
-    requires { ⌜ (16384 ≤ length (now area)) × (length (now tree) ≡ 16384) × ((i : ℕ) → getD (now tree) i 0 ≡ 0) ⌝ }
-    ensures { λ r. ⌜ ReadDone (now (s .entry)) (now (tree .exit)) r × (length (now (area .exit)) ≡ length (now (area .entry))) ⌝ }
+// Reads a text: its tree lies in the first 16,384 bytes of the area, and the names that it declares in the 16,384 behind them.
+pub fn read(s: &[u8], work: &mut [u8]) -> Told
+    requires { ⌜ 32768 ≤ length (now work) ⌝ }
+    ensures { λ r. ⌜ ReadDone (now (s .entry)) (now (work .exit)) r × (length (now (work .exit)) ≡ length (now (work .entry))) ⌝ }
 {
     match grammar::check(s) {
         Checked::Refused { number, place } => return Told::Fault { number, place },
         Checked::Grammatical => {
-            let d = decls::declared(s, area);
+            area::clear(work);
+            let d = area::names(s, work);
             let m = d.marks;
-            let b = stmts::body(s, area, m.names, tree, d.word);
+            let b = stmts::body(s, m.names, work, d.word);
             let k = b.marks;
             let n = k.notes;
             let six = marks::least(m.six, n.six);
@@ -94,14 +98,32 @@ pub fn read(s: &[u8], tree: &mut [u8], area: &mut [u8]) -> Told
     }
 }
 
-// What any text says. Its stack is bounded: no more than 32 levels are open, each of some 4,200 bytes in an expression and 1,300 in a statement;
-// with both arrays and the first pass 176,424 bytes were written at most on x86-64 (bench/stack.c).
+fn no_tree() -> [u8; 16384]
+    ensures { λ r. ⌜ length r ≡ 16384 ⌝ }
+{
+    [0u8; 16384]
+}
+
+// The tree that lies in an area, copied: the clock reads a thin array.
+pub fn tree(work: &[u8]) -> [u8; 16384]
+    requires { ⌜ 16384 ≤ length (now work) ⌝ }
+    ensures { λ r. ⌜ r ≡ treeOf (now (work .entry)) ⌝ }
+{
+    let mut t = no_tree();
+    let mut j: usize = 0;
+    while j < 16384 {
+        t[j] = work[j];
+        j += 1;
+    }
+    t
+}
+
+// What any text says. Its stack is bounded: no more than 32 levels are open, each of some 4 KB in an expression and 1.3 KB in a statement.
 pub fn check(s: &[u8]) -> Answer
     ensures { λ r. ⌜ Says (now (s .entry)) r ⌝ }
 {
-    let mut tree = [0u8; 16384];
-    let mut area = [0u8; 16384];
-    match read(s, &mut tree, &mut area) {
+    let mut work = [0u8; 32768];
+    match read(s, &mut work) {
         Told::Fault { number, place } => return Answer::Refused { number, place },
         Told::Good {
             n,

@@ -99,16 +99,16 @@ Rest look s k l b h m t u r i = (ws : List Word) → Stands s h ws → (e : ℕ)
 
 -- one reader after the other
 pub and-on : {s : List ℕ} {h a b : Here} {t u v : List ℕ} → On s h t u a → On s a u v b → On s h t v b
-and-on x y = record { near = y .near; later = omega (arith, x .later, y .later); long = y .long ∙ x .long }
+and-on x y = record { near = y .near; later = omega (arith, x .later, y .later); kept = y .kept ∙ x .kept }
 
 pub on-word : {s : List ℕ} {h a b : Here} {t u : List ℕ} → On s h t u a → Begins s (a .next) b → On s h t u b
-on-word x y = record { near = y .near; later = omega (arith, x .later, x .near .on, y .later); long = x .long }
+on-word x y = record { near = y .near; later = omega (arith, x .later, x .near .on, y .later); kept = x .kept }
 
 pub on-here : {s : List ℕ} {h : Here} {t : List ℕ} → Near s h → On s h t t h
-on-here near = record { near = near; later = omega arith; long = refl }
+on-here near = record { near = near; later = omega arith; kept = refl }
 
 pub on-fin : {s : List ℕ} {h : Here} {i κ p x y z d : ℕ} {w : Here} {m : Marks} {t t₁ u : List ℕ} {r : Read} → Finished i κ p x y z d w m t₁ u r → On s h t t₁ w → On s h t u (r .word)
-on-fin {s} {h} fin on = record { near = rw (fin .word) (on .near); later = rw (fin .word) (on .later); long = fin .long ∙ on .long }
+on-fin {s} {h} fin on = record { near = rw (fin .word) (on .near); later = rw (fin .word) (on .later); kept = fin .kept ∙ on .kept }
 
 module _ {look : List ℕ → Option Variable} {s : List ℕ} {k : ℕ} {l b : Bool} {h : Here} {m : Marks} {row : ℕ} (at : row ≡ statementRow (h .kind)) where
   one : {t u : List ℕ} {r : Read} → On s h t u (r .word) → Rest look s k l b h m t u r row → One look s k l b h m t u r
@@ -119,7 +119,7 @@ module _ {look : List ℕ → Option Variable} {s : List ℕ} {k : ℕ} {l b : B
 
   -- no level is left for a statement inside
   pub one-none : {t : List ℕ} {r : Read} → Near s h → isPlain row ≡ false → k ≡ 0 → r .word ≡ h → One look s k l b h m t t r
-  one-none near p z w = one (record { near = rw w near; later = rw w (omega arith); long = refl }) (λ ws st e v rest y. row-none e k ws v rest row z p y)
+  one-none near p z w = one (record { near = rw w near; later = rw w (omega arith); kept = refl }) (λ ws st e v rest y. row-none e k ws v rest row z p y)
 
   pub one-if : {t u : List ℕ} {r : Read} → isPlain row ≡ false → ¬ (row ≡ 7) → ¬ (row ≡ 8) → ¬ (row ≡ 10) → ¬ (row ≡ 12) → RowCame look s k l b 6 h m t u r → One look s k l b h m t u r
   one-if p n₇ n₈ n₁₀ n₁₂ came = one (came .on) (λ ws st e v rest y. came .told ws st e v rest (row-six e k ws v rest row p n₇ n₈ n₁₀ n₁₂ y))

@@ -212,7 +212,7 @@ module _ {look : List ℕ → Option Variable} {s : List ℕ} {k : ℕ} {l : Boo
   pub branch-came : {h : Here} {m m₁ : Marks} {t t₁ u : List ℕ} {a r : Read} → m₁ ≡ withActs m 1 → All look s k l true h m₁ t t₁ a → Branched m a t₁ u r → BranchCame look s k l h m t u r
   branch-came {h} {m} {m₁} {t} {t₁} {u} {a} {r} counts came fin =
       record {
-        on = record { near = rw (fin .word) (came .on .near); later = rw (fin .word) (came .on .later); long = fin .long ∙ came .on .long };
+        on = record { near = rw (fin .word) (came .on .near); later = rw (fin .word) (came .on .later); kept = fin .kept ∙ came .on .kept };
         told = λ ws st f x rest y bs. let i = came .told ws st f x rest y in (rw (fin .word) (i .word), branch-walk look l true m m₁ t x bs (walkedOf a t₁) (walkedOf r u) counts (i .walks) (fin .walks));
       }
 

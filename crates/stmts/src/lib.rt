@@ -1,8 +1,9 @@
 // Statements read from a text: what is noted of them, and their nodes written into lent bytes. A statement, a list, cases and branches, one in the other.
 ghost use mathlib.Core.Bool.{Bool, true, false};
-ghost use Prim.Native.Nat.{_*_, _≤_, _<_};
+ghost use Prim.Native.Nat.{_+_, _*_, _≤_, _<_};
 ghost use lib.ListN.{length};
 ghost use Rattle.names.specs.Look.{lookIn};
+ghost use Rattle.parts.specs.Beside.{beside};
 ghost use Rattle.hand.specs.Along.{Near};
 ghost use Rattle.items.specs.Walk.{startMarks};
 ghost use Rattle.items.specs.Came.{Ready, RowCame, One, All, CaseCame, CasesCame, BranchCame, BranchesCame};
@@ -13,7 +14,6 @@ use items::Read;
 // A statement, from its first word on, with so many levels left; whether it stands inside a loop, and inside a switch or a parallel.
 fn stmt(
     s: &[u8],
-    d: &[u8],
     count: u16,
     t: &mut [u8],
     first: Here,
@@ -22,35 +22,34 @@ fn stmt(
     br: bool,
     levels: u8,
 ) -> Read
-    requires { ⌜ Ready (now s) (now d) count levels first ⌝ }
-    ensures { λ r. ⌜ One (lookIn (now (s .entry)) (now (d .entry)) count) (now (s .entry)) levels lp br first marks (now (t .entry)) (now (t .exit)) r ⌝ }
+    requires { ⌜ Ready (now s) (beside (now t)) count levels first ⌝ }
+    ensures { λ r. ⌜ One (lookIn (now (s .entry)) (beside (now (t .entry)) .names) count) (now (s .entry)) levels lp br first marks (now (t .entry)) (now (t .exit)) r ⌝ }
 {
     let row = items::rows::statement_row(first.kind);
     if items::rows::is_plain(row) {
-        return plain::plain(s, d, count, t, row, first, marks, lp, br, levels);
+        return plain::plain(s, count, t, row, first, marks, lp, br, levels);
     }
     if levels == 0 {
         return items::made(first, marks);
     }
     if row == 7 {
-        return while_loop(s, d, count, t, first, marks, br, levels);
+        return while_loop(s, count, t, first, marks, br, levels);
     }
     if row == 8 {
-        return loop_always(s, d, count, t, first, marks, br, levels);
+        return loop_always(s, count, t, first, marks, br, levels);
     }
     if row == 10 {
-        return switch(s, d, count, t, first, marks, lp, levels);
+        return switch(s, count, t, first, marks, lp, levels);
     }
     if row == 12 {
-        return parallel(s, d, count, t, first, marks, lp, levels);
+        return parallel(s, count, t, first, marks, lp, levels);
     }
-    choice(s, d, count, t, first, marks, lp, br, levels)
+    choice(s, count, t, first, marks, lp, br, levels)
 }
 
 // `loop`: its statements stand in a loop.
 fn loop_always(
     s: &[u8],
-    d: &[u8],
     count: u16,
     t: &mut [u8],
     first: Here,
@@ -58,14 +57,14 @@ fn loop_always(
     br: bool,
     levels: u8,
 ) -> Read
-    requires { ⌜ (0 < levels) × Ready (now s) (now d) count levels first ⌝ }
-    ensures { λ r. ⌜ ((l : Bool) → RowCame (lookIn (now (s .entry)) (now (d .entry)) count) (now (s .entry)) levels l br 8 first marks (now (t .entry)) (now (t .exit)) r) ⌝ }
+    requires { ⌜ (0 < levels) × Ready (now s) (beside (now t)) count levels first ⌝ }
+    ensures { λ r. ⌜ ((l : Bool) → RowCame (lookIn (now (s .entry)) (beside (now (t .entry)) .names) count) (now (s .entry)) levels l br 8 first marks (now (t .entry)) (now (t .exit)) r) ⌝ }
 {
     let i = marks.nodes;
     let p = first.place;
     let m = items::noted::begun(marks, p);
     let second = hand::word_from(s, first.next);
-    let a = list(s, d, count, t, second, m, true, br, levels - 1);
+    let a = list(s, count, t, second, m, true, br, levels - 1);
     let v = a.word;
     let k = a.marks;
     let next = hand::word_from(s, v.next);
@@ -75,7 +74,6 @@ fn loop_always(
 // `while`: its statements stand in a loop.
 fn while_loop(
     s: &[u8],
-    d: &[u8],
     count: u16,
     t: &mut [u8],
     first: Here,
@@ -83,19 +81,19 @@ fn while_loop(
     br: bool,
     levels: u8,
 ) -> Read
-    requires { ⌜ (0 < levels) × Ready (now s) (now d) count levels first ⌝ }
-    ensures { λ r. ⌜ ((l : Bool) → RowCame (lookIn (now (s .entry)) (now (d .entry)) count) (now (s .entry)) levels l br 7 first marks (now (t .entry)) (now (t .exit)) r) ⌝ }
+    requires { ⌜ (0 < levels) × Ready (now s) (beside (now t)) count levels first ⌝ }
+    ensures { λ r. ⌜ ((l : Bool) → RowCame (lookIn (now (s .entry)) (beside (now (t .entry)) .names) count) (now (s .entry)) levels l br 7 first marks (now (t .entry)) (now (t .exit)) r) ⌝ }
 {
     let i = marks.nodes;
     let p = first.place;
     let m = items::noted::begun(marks, p);
     let second = hand::word_from(s, first.next);
     let below = levels - 1;
-    let g = plain::test(s, d, count, t, second, m, p, below);
+    let g = plain::test(s, count, t, second, m, p, below);
     let w = g.word;
     let k = g.marks;
     let body = hand::word_from(s, w.next);
-    let a = list(s, d, count, t, body, k, true, br, below);
+    let a = list(s, count, t, body, k, true, br, below);
     let v = a.word;
     let j = a.marks;
     let next = hand::word_from(s, v.next);
@@ -105,7 +103,6 @@ fn while_loop(
 // `if`, with or without `else`.
 fn choice(
     s: &[u8],
-    d: &[u8],
     count: u16,
     t: &mut [u8],
     first: Here,
@@ -114,25 +111,25 @@ fn choice(
     br: bool,
     levels: u8,
 ) -> Read
-    requires { ⌜ (0 < levels) × Ready (now s) (now d) count levels first ⌝ }
-    ensures { λ r. ⌜ RowCame (lookIn (now (s .entry)) (now (d .entry)) count) (now (s .entry)) levels lp br 6 first marks (now (t .entry)) (now (t .exit)) r ⌝ }
+    requires { ⌜ (0 < levels) × Ready (now s) (beside (now t)) count levels first ⌝ }
+    ensures { λ r. ⌜ RowCame (lookIn (now (s .entry)) (beside (now (t .entry)) .names) count) (now (s .entry)) levels lp br 6 first marks (now (t .entry)) (now (t .exit)) r ⌝ }
 {
     let i = marks.nodes;
     let p = first.place;
     let m = items::noted::begun(marks, p);
     let second = hand::word_from(s, first.next);
     let below = levels - 1;
-    let g = plain::test(s, d, count, t, second, m, p, below);
+    let g = plain::test(s, count, t, second, m, p, below);
     let w = g.word;
     let k = g.marks;
-    let a = list(s, d, count, t, w, k, lp, br, below);
+    let a = list(s, count, t, w, k, lp, br, below);
     let v = a.word;
     let j = a.marks;
     let next = hand::word_from(s, v.next);
     if v.kind != 42 {
         return written::finish(t, i, 6, p, next, j, g.root, j.nodes, g.looks as u16, 0);
     }
-    let b = list(s, d, count, t, next, j, lp, br, below);
+    let b = list(s, count, t, next, j, lp, br, below);
     let x = b.word;
     let q = b.marks;
     let end = hand::word_from(s, x.next);
@@ -142,7 +139,6 @@ fn choice(
 // `switch`: a case, the cases behind it, and the default.
 fn switch(
     s: &[u8],
-    d: &[u8],
     count: u16,
     t: &mut [u8],
     first: Here,
@@ -150,23 +146,23 @@ fn switch(
     lp: bool,
     levels: u8,
 ) -> Read
-    requires { ⌜ (0 < levels) × Ready (now s) (now d) count levels first ⌝ }
-    ensures { λ r. ⌜ ((b : Bool) → RowCame (lookIn (now (s .entry)) (now (d .entry)) count) (now (s .entry)) levels lp b 10 first marks (now (t .entry)) (now (t .exit)) r) ⌝ }
+    requires { ⌜ (0 < levels) × Ready (now s) (beside (now t)) count levels first ⌝ }
+    ensures { λ r. ⌜ ((b : Bool) → RowCame (lookIn (now (s .entry)) (beside (now (t .entry)) .names) count) (now (s .entry)) levels lp b 10 first marks (now (t .entry)) (now (t .exit)) r) ⌝ }
 {
     let i = marks.nodes;
     let p = first.place;
     let m = items::noted::begun(marks, p);
     let second = hand::word_from(s, first.next);
     let below = levels - 1;
-    let a = one_case(s, d, count, t, second, m, lp, below);
+    let a = one_case(s, count, t, second, m, lp, below);
     let v = a.word;
     let k = a.marks;
-    let c = cases(s, d, count, t, v, k, lp, below);
+    let c = cases(s, count, t, v, k, lp, below);
     let w = c.word;
     let j = c.marks;
     let colon = hand::word_from(s, w.next);
     let last = hand::word_from(s, colon.next);
-    let z = list(s, d, count, t, last, j, lp, true, below);
+    let z = list(s, count, t, last, j, lp, true, below);
     let x = z.word;
     let q = z.marks;
     let next = hand::word_from(s, x.next);
@@ -176,7 +172,6 @@ fn switch(
 // `parallel`: two branches, and those behind them.
 fn parallel(
     s: &[u8],
-    d: &[u8],
     count: u16,
     t: &mut [u8],
     first: Here,
@@ -184,8 +179,8 @@ fn parallel(
     lp: bool,
     levels: u8,
 ) -> Read
-    requires { ⌜ (0 < levels) × Ready (now s) (now d) count levels first ⌝ }
-    ensures { λ r. ⌜ ((b : Bool) → RowCame (lookIn (now (s .entry)) (now (d .entry)) count) (now (s .entry)) levels lp b 12 first marks (now (t .entry)) (now (t .exit)) r) ⌝ }
+    requires { ⌜ (0 < levels) × Ready (now s) (beside (now t)) count levels first ⌝ }
+    ensures { λ r. ⌜ ((b : Bool) → RowCame (lookIn (now (s .entry)) (beside (now (t .entry)) .names) count) (now (s .entry)) levels lp b 12 first marks (now (t .entry)) (now (t .exit)) r) ⌝ }
 {
     let i = marks.nodes;
     let p = first.place;
@@ -193,14 +188,14 @@ fn parallel(
     let second = hand::word_from(s, first.next);
     let below = levels - 1;
     let o = items::noted::with_acts(m, 0);
-    let a = branch(s, d, count, t, second, o, lp, below);
+    let a = branch(s, count, t, second, o, lp, below);
     let v = a.word;
     let k = a.marks;
     let other = hand::word_from(s, v.next);
-    let b = branch(s, d, count, t, other, k, lp, below);
+    let b = branch(s, count, t, other, k, lp, below);
     let w = b.word;
     let j = b.marks;
-    let c = branches(s, d, count, t, w, j, lp, below);
+    let c = branches(s, count, t, w, j, lp, below);
     let x = c.word;
     let q = c.marks;
     let next = hand::word_from(s, x.next);
@@ -211,7 +206,6 @@ fn parallel(
 // A list of statements.
 pub fn list(
     s: &[u8],
-    d: &[u8],
     count: u16,
     t: &mut [u8],
     first: Here,
@@ -220,10 +214,10 @@ pub fn list(
     br: bool,
     levels: u8,
 ) -> Read
-    requires { ⌜ Ready (now s) (now d) count levels first ⌝ }
-    ensures { λ r. ⌜ All (lookIn (now (s .entry)) (now (d .entry)) count) (now (s .entry)) levels lp br first marks (now (t .entry)) (now (t .exit)) r ⌝ }
+    requires { ⌜ Ready (now s) (beside (now t)) count levels first ⌝ }
+    ensures { λ r. ⌜ All (lookIn (now (s .entry)) (beside (now (t .entry)) .names) count) (now (s .entry)) levels lp br first marks (now (t .entry)) (now (t .exit)) r ⌝ }
 {
-    let mut at = stmt(s, d, count, t, first, marks, lp, br, levels);
+    let mut at = stmt(s, count, t, first, marks, lp, br, levels);
     loop {
         let w = at.word;
         let k = at.marks;
@@ -234,14 +228,13 @@ pub fn list(
         if items::rows::statement_row(v.kind) == 13 {
             return items::made(v, k);
         }
-        at = stmt(s, d, count, t, v, k, lp, br, levels);
+        at = stmt(s, count, t, v, k, lp, br, levels);
     }
 }
 
 // A case, from its first word on.
 fn one_case(
     s: &[u8],
-    d: &[u8],
     count: u16,
     t: &mut [u8],
     first: Here,
@@ -249,17 +242,17 @@ fn one_case(
     lp: bool,
     levels: u8,
 ) -> Read
-    requires { ⌜ Ready (now s) (now d) count levels first ⌝ }
-    ensures { λ r. ⌜ CaseCame (lookIn (now (s .entry)) (now (d .entry)) count) (now (s .entry)) levels lp true first marks (now (t .entry)) (now (t .exit)) r ⌝ }
+    requires { ⌜ Ready (now s) (beside (now t)) count levels first ⌝ }
+    ensures { λ r. ⌜ CaseCame (lookIn (now (s .entry)) (beside (now (t .entry)) .names) count) (now (s .entry)) levels lp true first marks (now (t .entry)) (now (t .exit)) r ⌝ }
 {
     let i = marks.nodes;
     let p = first.place;
     let m = items::noted::cased(marks);
     let second = hand::word_from(s, first.next);
-    let g = plain::test(s, d, count, t, second, m, p, levels);
+    let g = plain::test(s, count, t, second, m, p, levels);
     let w = g.word;
     let k = g.marks;
-    let a = list(s, d, count, t, w, k, lp, true, levels);
+    let a = list(s, count, t, w, k, lp, true, levels);
     let v = a.word;
     let j = a.marks;
     written::finish(t, i, 13, p, v, j, g.root, j.nodes, g.looks as u16, 0)
@@ -268,7 +261,6 @@ fn one_case(
 // Cases, as long as there are any.
 fn cases(
     s: &[u8],
-    d: &[u8],
     count: u16,
     t: &mut [u8],
     first: Here,
@@ -276,8 +268,8 @@ fn cases(
     lp: bool,
     levels: u8,
 ) -> Read
-    requires { ⌜ Ready (now s) (now d) count levels first ⌝ }
-    ensures { λ r. ⌜ CasesCame (lookIn (now (s .entry)) (now (d .entry)) count) (now (s .entry)) levels lp true first marks (now (t .entry)) (now (t .exit)) r ⌝ }
+    requires { ⌜ Ready (now s) (beside (now t)) count levels first ⌝ }
+    ensures { λ r. ⌜ CasesCame (lookIn (now (s .entry)) (beside (now (t .entry)) .names) count) (now (s .entry)) levels lp true first marks (now (t .entry)) (now (t .exit)) r ⌝ }
 {
     let mut at = items::made(first, marks);
     loop {
@@ -286,14 +278,13 @@ fn cases(
         if w.kind != 50 {
             return at;
         }
-        at = one_case(s, d, count, t, w, k, lp, levels);
+        at = one_case(s, count, t, w, k, lp, levels);
     }
 }
 
 // A branch: its activities are counted from 1, and added to those before it.
 fn branch(
     s: &[u8],
-    d: &[u8],
     count: u16,
     t: &mut [u8],
     first: Here,
@@ -301,18 +292,17 @@ fn branch(
     lp: bool,
     levels: u8,
 ) -> Read
-    requires { ⌜ Ready (now s) (now d) count levels first ⌝ }
-    ensures { λ r. ⌜ BranchCame (lookIn (now (s .entry)) (now (d .entry)) count) (now (s .entry)) levels lp first marks (now (t .entry)) (now (t .exit)) r ⌝ }
+    requires { ⌜ Ready (now s) (beside (now t)) count levels first ⌝ }
+    ensures { λ r. ⌜ BranchCame (lookIn (now (s .entry)) (beside (now (t .entry)) .names) count) (now (s .entry)) levels lp first marks (now (t .entry)) (now (t .exit)) r ⌝ }
 {
     let m = items::noted::with_acts(marks, 1);
-    let a = list(s, d, count, t, first, m, lp, true, levels);
+    let a = list(s, count, t, first, m, lp, true, levels);
     written::branched(t, marks, a)
 }
 
 // Branches, as long as there are any.
 fn branches(
     s: &[u8],
-    d: &[u8],
     count: u16,
     t: &mut [u8],
     first: Here,
@@ -320,8 +310,8 @@ fn branches(
     lp: bool,
     levels: u8,
 ) -> Read
-    requires { ⌜ Ready (now s) (now d) count levels first ⌝ }
-    ensures { λ r. ⌜ BranchesCame (lookIn (now (s .entry)) (now (d .entry)) count) (now (s .entry)) levels lp first marks (now (t .entry)) (now (t .exit)) r ⌝ }
+    requires { ⌜ Ready (now s) (beside (now t)) count levels first ⌝ }
+    ensures { λ r. ⌜ BranchesCame (lookIn (now (s .entry)) (beside (now (t .entry)) .names) count) (now (s .entry)) levels lp first marks (now (t .entry)) (now (t .exit)) r ⌝ }
 {
     let mut at = items::made(first, marks);
     loop {
@@ -331,24 +321,14 @@ fn branches(
             return at;
         }
         let v = hand::word_from(s, w.next);
-        at = branch(s, d, count, t, v, k, lp, levels);
+        at = branch(s, count, t, v, k, lp, levels);
     }
 }
 
 // The statements of a program, which stand in no loop, switch or parallel, with 32 levels.
-pub fn body(s: &[u8], d: &[u8], count: u16, t: &mut [u8], first: Here) -> Read
-    requires { ⌜ Near (now s) first × (count * 4 ≤ length (now d)) ⌝ }
-    ensures { λ r. ⌜ All (lookIn (now (s .entry)) (now (d .entry)) count) (now (s .entry)) 32 false false first startMarks (now (t .entry)) (now (t .exit)) r ⌝ }
+pub fn body(s: &[u8], count: u16, t: &mut [u8], first: Here) -> Read
+    requires { ⌜ Near (now s) first × (16384 + count * 4 ≤ length (now t)) ⌝ }
+    ensures { λ r. ⌜ All (lookIn (now (s .entry)) (beside (now (t .entry)) .names) count) (now (s .entry)) 32 false false first startMarks (now (t .entry)) (now (t .exit)) r ⌝ }
 {
-    list(
-        s,
-        d,
-        count,
-        t,
-        first,
-        items::noted::start(),
-        false,
-        false,
-        32,
-    )
+    list(s, count, t, first, items::noted::start(), false, false, 32)
 }

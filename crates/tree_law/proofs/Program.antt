@@ -1,13 +1,13 @@
--- The tree that the walk over a source's body leaves in bytes that were all zero is the program, ready for the clock.
+-- The tree that the walk over a source's body leaves in bytes whose nodes were all zero is the program, ready for the clock.
 -- Assumes nothing.
 use mathlib.Core.Bool.{false}
 use mathlib.Core.Path.{_≡_, refl, sym, _∙_, ap, subst, fun-ext}
 use mathlib.Core.List.{List, []}
 use mathlib.Core.Option.{Option, none}
-use Prim.Native.Nat.{ℕ, zero, suc, _+_, _*_, _%_, _≤_, _<_}
+use Prim.Native.Nat.{ℕ, _+_, _*_, _%_, _≤_, _<_}
 use native.Mathlib.Omega.{arith}
 use native.Mathlib.Decide.{decLt}
-use lib.ListN.{length, getD, replicate}
+use lib.ListN.{length, getD}
 use Rattle.meaning.specs.Numbers.{Variable}
 use Rattle.meaning.specs.Clock.{activitiesAll}
 use Rattle.meaning.specs.Declared.{Source, lookUp}
@@ -65,7 +65,7 @@ unfolding whatAt
 leaves-all u f = record { leaf = λ i h. let e : nodeBase (i % 512) ≡ nodeBase i = omega arith in let z = f (i % 512) (omega arith) (rw e h) in omega (arith, subst (λ (n : ℕ). halfAt u (n + 4) ≤ i % 512 + 1) e z) }
 
 module _ (s : Source) (faultless : faultOf s ≡ none) (form : Formed s)
-    (m : Marks) (t : List ℕ) (first : m .nodes ≡ 0) (none-read : m .notes .parts ≡ 0) (long : 16384 ≤ length t) (zeros : (q : ℕ) → getD t q 0 ≡ 0) where
+    (m : Marks) (t : List ℕ) (first : m .nodes ≡ 0) (none-read : m .notes .parts ≡ 0) (long : 16384 ≤ length t) (zeros : (q : ℕ) → q < 8192 → getD t q 0 ≡ 0) where
   abbrev W : Walked
   W = walkAll (lookUp (s .declared)) (s .body) false false (walked m t)
 
@@ -78,50 +78,50 @@ module _ (s : Source) (faultless : faultOf s ≡ none) (form : Formed s)
   went : Moved (walked m t) W (itemsAll (s .body))
   went = moved-all (lookUp (s .declared)) (s .body) false false (walked m t) (form .filled) room
 
-  stored : HeldList (W .bytes) (checkedAll (s .body) (variableOf (s .declared)) 0) 0 (W .marks .nodes)
-  stored =
-      subst (λ (n : ℕ). HeldList (W .bytes) (checkedAll (s .body) (variableOf (s .declared)) n) n (W .marks .nodes)) first
-      (held-all (s .declared) (placed (s .declared) (sizes .inputs) (sizes .bits) (sizes .widths)) (s .body) false false (walked m t) (W .bytes) (form .filled) (body-right s faultless form) room (record { nodes = λ q a b c d e. refl; parts = λ q a b. refl }))
-
-  leaf : (j : ℕ) → j < 512 → Leaf (W .bytes) j
-  leaf j h = go (decLt j (W .marks .nodes))
-    where
-      zero-at : (q : ℕ) → W .marks .nodes * 16 ≤ q → q < 8192 → getD (W .bytes) q 0 ≡ 0
-      zero-at q a b = went .bytes .middle q a (omega arith) ∙ zeros q
-
-      go : Dec (j < W .marks .nodes) → Leaf (W .bytes) j
-      go (yes k) = stored .leaves j (omega arith) k
-      go (no k) = λ z. let e : nodeBase j + 4 ≡ j * 16 + 4 = omega arith in omega (arith, ap (halfAt (W .bytes)) e, half-zero (W .bytes) (j * 16 + 4) (zero-at (j * 16 + 4) (omega arith) (omega arith)) (zero-at (j * 16 + 4 + 1) (omega arith) (omega arith)))
-
   eight : activitiesAll (checkedAll (s .body) (variableOf (s .declared)) 0) ≤ 8
   eight = rw (same-all (variableOf (s .declared)) (s .body) 0) (eight-all (s .body) (sizes .delays-and-activities))
 
-  by-definition : Program s W
-  unfolding programOf
-  by-definition =
-      record {
-        count = omega (arith, went .nodes);
-        few = omega (arith, went .nodes, room .nodes);
-        body = λ left h. stored .reads left (omega arith);
-        ready = λ left h. record {
-          leaves = leaves-all (W .bytes) leaf;
-          fuel = h;
-          good = rw (← stored .reads left (omega arith)) (stored .good);
-          wide = rw (← stored .reads left (omega arith)) eight;
-        };
-      }
+  -- in whatever bytes the tree lies
+  module _ (u : List ℕ) (agrees : (q : ℕ) → q < 16384 → getD u q 0 ≡ getD (W .bytes) q 0) where
+    stored : HeldList u (checkedAll (s .body) (variableOf (s .declared)) 0) 0 (W .marks .nodes)
+    stored =
+        subst (λ (n : ℕ). HeldList u (checkedAll (s .body) (variableOf (s .declared)) n) n (W .marks .nodes)) first
+        (held-all (s .declared) (placed (s .declared) (sizes .inputs) (sizes .bits) (sizes .widths)) (s .body) false false (walked m t) u (form .filled) (body-right s faultless form) room
+        (record { nodes = λ q a b c d e. agrees q (omega (arith, went .nodes, room .nodes)); parts = λ q a b. agrees q (omega (arith, went .parts, room .parts)) }))
+
+    leaf : (j : ℕ) → j < 512 → Leaf u j
+    leaf j h = go (decLt j (W .marks .nodes))
+      where
+        zero-at : (q : ℕ) → W .marks .nodes * 16 ≤ q → q < 8192 → getD u q 0 ≡ 0
+        zero-at q a b = agrees q (omega arith) ∙ went .bytes .middle q a (omega arith) ∙ zeros q b
+
+        go : Dec (j < W .marks .nodes) → Leaf u j
+        go (yes k) = stored .leaves j (omega arith) k
+        go (no k) = λ z. let e : nodeBase j + 4 ≡ j * 16 + 4 = omega arith in omega (arith, ap (halfAt u) e, half-zero u (j * 16 + 4) (zero-at (j * 16 + 4) (omega arith) (omega arith)) (zero-at (j * 16 + 4 + 1) (omega arith) (omega arith)))
+
+    by-definition : Program s (walked (W .marks) u)
+    unfolding programOf
+    by-definition =
+        record {
+          count = omega (arith, went .nodes);
+          few = omega (arith, went .nodes, room .nodes);
+          body = λ left h. stored .reads left (omega arith);
+          ready = λ left h. record {
+            leaves = leaves-all u leaf;
+            fuel = h;
+            good = rw (← stored .reads left (omega arith)) (stored .good);
+            wide = rw (← stored .reads left (omega arith)) eight;
+          };
+        }
 
   -- .. where names are looked up in any way that comes to the same
-  pub holds-program : (look : List ℕ → Option Variable) → ((x : List ℕ) → look x ≡ lookUp (s .declared) x) → Program s (walkAll look (s .body) false false (walked m t))
-  holds-program look same = subst (λ (f : List ℕ → Option Variable). Program s (walkAll f (s .body) false false (walked m t))) (sym (fun-ext same)) by-definition
-
--- bytes that are all zero
-pub zero-bytes : (n q : ℕ) → _≡_ {A = ℕ} (getD (replicate n 0) q 0) 0
-zero-bytes zero q = refl
-zero-bytes (suc n) zero = refl
-zero-bytes (suc n) (suc q) = zero-bytes n q
+  pub holds-program : (look : List ℕ → Option Variable) → ((x : List ℕ) → look x ≡ lookUp (s .declared) x) → (u : List ℕ) → ((q : ℕ) → q < 16384 → getD u q 0 ≡ getD (walkAll look (s .body) false false (walked m t) .bytes) q 0)
+      → Program s (walked (walkAll look (s .body) false false (walked m t) .marks) u)
+  holds-program look same =
+      subst (λ (f : List ℕ → Option Variable). (u : List ℕ) → ((q : ℕ) → q < 16384 → getD u q 0 ≡ getD (walkAll f (s .body) false false (walked m t) .bytes) q 0) → Program s (walked (walkAll f (s .body) false false (walked m t) .marks) u))
+      (sym (fun-ext same)) by-definition
 
 -- .. of a text that says a source
-pub text-program : {text : List ℕ} {s : Source} → Reads text (good s) → (m : Marks) (t : List ℕ) → m .nodes ≡ 0 → m .notes .parts ≡ 0 → 16384 ≤ length t → ((q : ℕ) → getD t q 0 ≡ 0)
+pub text-program : {text : List ℕ} {s : Source} → Reads text (good s) → (m : Marks) (t : List ℕ) → m .nodes ≡ 0 → m .notes .parts ≡ 0 → 16384 ≤ length t → ((q : ℕ) → q < 8192 → getD t q 0 ≡ 0)
     → (look : List ℕ → Option Variable) → ((x : List ℕ) → look x ≡ lookUp (s .declared) x) → Program s (walkAll look (s .body) false false (walked m t))
-text-program {s = s} r m t first none-read long zeros look same = holds-program s (no-fault r) (formed r) m t first none-read long zeros look same
+text-program {s = s} r m t first none-read long zeros look same = holds-program s (no-fault r) (formed r) m t first none-read long zeros look same (walkAll look (s .body) false false (walked m t) .bytes) (λ q h. refl)

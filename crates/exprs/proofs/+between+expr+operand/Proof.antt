@@ -7,7 +7,8 @@ use borrow.Author.Needs.{needs}
 use lib.ListN.{length}
 use Rattle.hand.specs.declared.Here.{Here}
 use Rattle.names.specs.Look.{lookIn}
-use Rattle.exprs.proofs.Laws.{Going, before-low, between-low, strength-known, before-skip, before-deep, before-on, between-start, between-ends, between-on, operand-plain, operand-deep, operand-open, operand-int}
+use Rattle.parts.specs.Beside.{beside}
+use Rattle.exprs.proofs.Laws.{came-long, plain-long, Going, before-low, between-low, strength-known, before-skip, before-deep, before-on, between-start, between-ends, between-on, operand-plain, operand-deep, operand-open, operand-int}
 use Prim.Native.Nat.{ℕ, _<_}
 use borrow.Fn.Kinds.{In}
 use borrow.Fn.PlainCycle.{Measures, is, falls, and}
@@ -34,80 +35,80 @@ use Rattle.parts.proofs.marks.counted.Reads as counted-reads
 use Rattle.exprs.proofs.+between+expr+operand.{statement}
 use Rattle.exprs.proofs.+between+expr+operand.Tie.{close}
 
-abbrev μ-between : Measures 3 between-kinds.ps ℕ
-μ-between κs a = a .1 .1 .1 .1 .1 .1 .1 .0 * 16 + 2 * (7 - a .1 .1 .1 .1 .0)
+abbrev μ-between : Measures 2 between-kinds.ps ℕ
+μ-between κs a = a .1 .1 .1 .1 .1 .1 .0 * 16 + 2 * (7 - a .1 .1 .1 .0)
 
-abbrev μ-expr : Measures 3 expr-kinds.ps ℕ
-μ-expr κs a = a .1 .1 .1 .1 .1 .1 .1 .0 * 16 + 2 * (7 - a .1 .1 .1 .1 .0) + 1
+abbrev μ-expr : Measures 2 expr-kinds.ps ℕ
+μ-expr κs a = a .1 .1 .1 .1 .1 .1 .0 * 16 + 2 * (7 - a .1 .1 .1 .0) + 1
 
-abbrev μ-operand : Measures 3 operand-kinds.ps ℕ
-μ-operand κs a = a .1 .1 .1 .1 .1 .1 .1 .0 * 16 + 2 * (7 - a .1 .1 .1 .1 .0)
+abbrev μ-operand : Measures 2 operand-kinds.ps ℕ
+μ-operand κs a = a .1 .1 .1 .1 .1 .1 .0 * 16 + 2 * (7 - a .1 .1 .1 .0)
 
-abbrev between-at : ℕ → In 3 between-kinds.ps
-between-at t = and 3 between-kinds.ps (is 3 between-kinds.ps μ-between t) between.Pre
+abbrev between-at : ℕ → In 2 between-kinds.ps
+between-at t = and 2 between-kinds.ps (is 2 between-kinds.ps μ-between t) between.Pre
 
-abbrev between-below : ℕ → In 3 between-kinds.ps
-between-below t = and 3 between-kinds.ps (falls 3 between-kinds.ps _<_ μ-between t) between.Pre
+abbrev between-below : ℕ → In 2 between-kinds.ps
+between-below t = and 2 between-kinds.ps (falls 2 between-kinds.ps _<_ μ-between t) between.Pre
 
-abbrev expr-at : ℕ → In 3 expr-kinds.ps
-expr-at t = and 3 expr-kinds.ps (is 3 expr-kinds.ps μ-expr t) expr.Pre
+abbrev expr-at : ℕ → In 2 expr-kinds.ps
+expr-at t = and 2 expr-kinds.ps (is 2 expr-kinds.ps μ-expr t) expr.Pre
 
-abbrev expr-below : ℕ → In 3 expr-kinds.ps
-expr-below t = and 3 expr-kinds.ps (falls 3 expr-kinds.ps _<_ μ-expr t) expr.Pre
+abbrev expr-below : ℕ → In 2 expr-kinds.ps
+expr-below t = and 2 expr-kinds.ps (falls 2 expr-kinds.ps _<_ μ-expr t) expr.Pre
 
-abbrev operand-at : ℕ → In 3 operand-kinds.ps
-operand-at t = and 3 operand-kinds.ps (is 3 operand-kinds.ps μ-operand t) operand.Pre
+abbrev operand-at : ℕ → In 2 operand-kinds.ps
+operand-at t = and 2 operand-kinds.ps (is 2 operand-kinds.ps μ-operand t) operand.Pre
 
-abbrev operand-below : ℕ → In 3 operand-kinds.ps
-operand-below t = and 3 operand-kinds.ps (falls 3 operand-kinds.ps _<_ μ-operand t) operand.Pre
+abbrev operand-below : ℕ → In 2 operand-kinds.ps
+operand-below t = and 2 operand-kinds.ps (falls 2 operand-kinds.ps _<_ μ-operand t) operand.Pre
 
 abbrev between-calls : ℕ → between-lts.Claims
 between-calls t = (expr-below t, expr.Post, strength-of-reads.Asked, strength-of-reads.Learnt, word-from-reads.Asked, word-from-reads.Learnt, counted-reads.Asked, counted-reads.Learnt, joined-reads.Asked, joined-reads.Learnt)
 
 abbrev between-Inv-loop : between-lts.InvT-loop
-between-Inv-loop s d count t₀ tier levels left₀ t left = Going (lookIn s d count) s tier levels left₀ t₀ left t
+between-Inv-loop s count t₀ tier levels left₀ t left = Going (lookIn s (beside t₀ .names) count) s tier levels left₀ t₀ left t
 
 abbrev between-μ-loop : between-lts.MeasureT-loop
-between-μ-loop s d count t₀ tier levels left₀ t left = length s - left .word .place
+between-μ-loop s count t₀ tier levels left₀ t left = length s - left .word .place
 
 between-add-expr : (t : ℕ) → between-lts.Need-add-expr (between-calls t) (between-at t) between.Post between-Inv-loop between-μ-loop
-between-add-expr t c = omega (arith, c .before .before .before .before .pre .1 .0 .low)
+between-add-expr t c = omega (arith, c .before .before .before .pre .1 .0 .low)
 
 between-expr-requires : (t : ℕ) → between-lts.Need-expr-requires (between-calls t) (between-at t) between.Post between-Inv-loop between-μ-loop
-between-expr-requires t c κs = (omega (arith, c .before .before .before .before .pre .0, (between-low (c .before .before .before .before .args .tier) (c .before .before .before .before .pre .1 .1))), record { near = c .before .before .before .before .pre .1 .0 .near; listed = c .before .before .before .before .pre .1 .0 .listed; low = omega (arith, (between-low (c .before .before .before .before .args .tier) (c .before .before .before .before .pre .1 .1))); few = c .before .before .before .before .pre .1 .0 .few })
+between-expr-requires t c κs = (omega (arith, c .before .before .before .pre .0, (between-low (c .before .before .before .args .tier) (c .before .before .before .pre .1 .1))), record { near = c .before .before .before .pre .1 .0 .near; listed = c .before .before .before .pre .1 .0 .listed; low = omega (arith, (between-low (c .before .before .before .args .tier) (c .before .before .before .pre .1 .1))); few = c .before .before .before .pre .1 .0 .few })
 
 between-loop-holds : (t : ℕ) → between-lts.Need-loop-holds (between-calls t) (between-at t) between.Post between-Inv-loop between-μ-loop
-between-loop-holds t c = between-start (c .before .before .expr .ensures)
+between-loop-holds t c = between-start (rw (← c .before .before .expr .ensures .kept) at (c .before .before .expr .ensures))
 
 between-strength-of-requires : (t : ℕ) → between-lts.Need-strength-of-requires (between-calls t) (between-at t) between.Post between-Inv-loop between-μ-loop
 between-strength-of-requires t c κs = search needs
 
 between-same-length : (t : ℕ) → between-lts.Need-same-length (between-calls t) (between-at t) between.Post between-Inv-loop between-μ-loop
-between-same-length t c = (between-ends (between-low (c .before .before .before .before .before .before .before .before .before .before .before .before .args .tier) (c .before .before .before .before .before .before .before .before .before .before .before .before .pre .1 .1)) (c .before .before .before .before .before .before .before .before .before .before .before .before .pre .1 .1) (rw (c .before .strength-of .ensures) at (c .if1 .taken)) (c .before .before .before .before .before .before .before .expr .ensures) (c .before .before .before .before .loop .inv)) .long
+between-same-length t c = came-long ((between-ends (between-low (c .before .before .before .before .before .before .before .before .before .before .before .args .tier) (c .before .before .before .before .before .before .before .before .before .before .before .pre .1 .1)) (c .before .before .before .before .before .before .before .before .before .before .before .pre .1 .1) (rw (c .before .strength-of .ensures) at (c .if1 .taken)) (c .before .before .before .before .before .before .before .expr .ensures) (rw (c .before .before .before .before .before .before .before .expr .ensures .kept) at (c .before .before .before .before .loop .inv))))
 
 between-returns : (t : ℕ) → between-lts.Need-returns (between-calls t) (between-at t) between.Post between-Inv-loop between-μ-loop
-between-returns t c = between-ends (between-low (c .before .before .before .before .before .before .before .before .before .before .before .before .args .tier) (c .before .before .before .before .before .before .before .before .before .before .before .before .pre .1 .1)) (c .before .before .before .before .before .before .before .before .before .before .before .before .pre .1 .1) (rw (c .before .strength-of .ensures) at (c .if1 .taken)) (c .before .before .before .before .before .before .before .expr .ensures) (c .before .before .before .before .loop .inv)
+between-returns t c = between-ends (between-low (c .before .before .before .before .before .before .before .before .before .before .before .args .tier) (c .before .before .before .before .before .before .before .before .before .before .before .pre .1 .1)) (c .before .before .before .before .before .before .before .before .before .before .before .pre .1 .1) (rw (c .before .strength-of .ensures) at (c .if1 .taken)) (c .before .before .before .before .before .before .before .expr .ensures) (rw (c .before .before .before .before .before .before .before .expr .ensures .kept) at (c .before .before .before .before .loop .inv))
 
 between-word-from-requires : (t : ℕ) → between-lts.Need-word-from-requires (between-calls t) (between-at t) between.Post between-Inv-loop between-μ-loop
-between-word-from-requires t c κs = (c .before .before .before .before .before .before .before .before .before .before .before .before .pre .1 .0 .near .short, c .before .before .before .before .loop .inv .near .inside)
+between-word-from-requires t c κs = (c .before .before .before .before .before .before .before .before .before .before .before .pre .1 .0 .near .short, c .before .before .before .before .loop .inv .near .inside)
 
 between-counted-requires : (t : ℕ) → between-lts.Need-counted-requires (between-calls t) (between-at t) between.Post between-Inv-loop between-μ-loop
 between-counted-requires t c κs = search needs
 
 between-add-expr-2 : (t : ℕ) → between-lts.Need-add-expr-2 (between-calls t) (between-at t) between.Post between-Inv-loop between-μ-loop
-between-add-expr-2 t c = omega (arith, c .before .before .before .before .before .before .before .before .before .before .before .before .before .before .before .pre .1 .0 .low)
+between-add-expr-2 t c = omega (arith, c .before .before .before .before .before .before .before .before .before .before .before .before .before .before .pre .1 .0 .low)
 
 between-expr-requires-2 : (t : ℕ) → between-lts.Need-expr-requires-2 (between-calls t) (between-at t) between.Post between-Inv-loop between-μ-loop
-between-expr-requires-2 t c κs = (omega (arith, c .before .before .before .before .before .before .before .before .before .before .before .before .before .before .before .pre .0, (between-low (c .before .before .before .before .before .before .before .before .before .before .before .before .before .before .before .args .tier) (c .before .before .before .before .before .before .before .before .before .before .before .before .before .before .before .pre .1 .1))), record { near = c .before .before .word-from .ensures .near; listed = c .before .before .before .before .before .before .before .before .before .before .before .before .before .before .before .pre .1 .0 .listed; low = omega (arith, (between-low (c .before .before .before .before .before .before .before .before .before .before .before .before .before .before .before .args .tier) (c .before .before .before .before .before .before .before .before .before .before .before .before .before .before .before .pre .1 .1))); few = c .before .before .before .before .before .before .before .before .before .before .before .before .before .before .before .pre .1 .0 .few })
+between-expr-requires-2 t c κs = (omega (arith, c .before .before .before .before .before .before .before .before .before .before .before .before .before .before .pre .0, (between-low (c .before .before .before .before .before .before .before .before .before .before .before .before .before .before .args .tier) (c .before .before .before .before .before .before .before .before .before .before .before .before .before .before .pre .1 .1))), record { near = c .before .before .word-from .ensures .near; listed = rw (c .before .before .before .before .before .before .before .loop .inv .kept ∙ c .before .before .before .before .before .before .before .before .before .before .expr .ensures .kept) (c .before .before .before .before .before .before .before .before .before .before .before .before .before .before .pre .1 .0 .listed); low = omega (arith, (between-low (c .before .before .before .before .before .before .before .before .before .before .before .before .before .before .args .tier) (c .before .before .before .before .before .before .before .before .before .before .before .before .before .before .pre .1 .1))); few = c .before .before .before .before .before .before .before .before .before .before .before .before .before .before .pre .1 .0 .few })
 
 between-joined-requires : (t : ℕ) → between-lts.Need-joined-requires (between-calls t) (between-at t) between.Post between-Inv-loop between-μ-loop
 between-joined-requires t c κs = search needs
 
 between-loop-less : (t : ℕ) → between-lts.Need-loop-less (between-calls t) (between-at t) between.Post between-Inv-loop between-μ-loop
-between-loop-less t c = omega (arith, c .before .before .before .before .before .before .before .before .before .before .before .before .before .before .loop .inv .near .more (strength-known (c .before .before .before .before .before .before .before .before .before .before .before .before .before .before .loop .left .word .kind) (c .before .before .before .before .before .before .before .before .before .before .before .before .before .before .before .before .before .before .before .before .before .before .args .tier) (between-low (c .before .before .before .before .before .before .before .before .before .before .before .before .before .before .before .before .before .before .before .before .before .before .args .tier) (c .before .before .before .before .before .before .before .before .before .before .before .before .before .before .before .before .before .before .before .before .before .before .pre .1 .1)) (sym (c .before .before .before .before .before .before .before .before .before .before .before .strength-of .ensures) ∙ c .before .before .before .before .before .before .before .before .before .before .if1 .left)), c .before .before .before .before .before .before .before .before .before .word-from .ensures .later, c .before .before .before .before .before .before .expr2 .ensures .later, c .before .before .before .before .before .before .expr2 .ensures .near .on, c .before .before .before .before .before .before .expr2 .ensures .near .inside, ap (λ (w : Here). w .place) (c .before .before .joined .ensures .0))
+between-loop-less t c = omega (arith, c .before .before .before .before .before .before .before .before .before .before .before .before .before .before .loop .inv .near .more (strength-known (c .before .before .before .before .before .before .before .before .before .before .before .before .before .before .loop .left .word .kind) (c .before .before .before .before .before .before .before .before .before .before .before .before .before .before .before .before .before .before .before .before .before .args .tier) (between-low (c .before .before .before .before .before .before .before .before .before .before .before .before .before .before .before .before .before .before .before .before .before .args .tier) (c .before .before .before .before .before .before .before .before .before .before .before .before .before .before .before .before .before .before .before .before .before .pre .1 .1)) (sym (c .before .before .before .before .before .before .before .before .before .before .before .strength-of .ensures) ∙ c .before .before .before .before .before .before .before .before .before .before .if1 .left)), c .before .before .before .before .before .before .before .before .before .word-from .ensures .later, c .before .before .before .before .before .before .expr2 .ensures .later, c .before .before .before .before .before .before .expr2 .ensures .near .on, c .before .before .before .before .before .before .expr2 .ensures .near .inside, ap (λ (w : Here). w .place) (c .before .before .joined .ensures .0))
 
 between-loop-again : (t : ℕ) → between-lts.Need-loop-again (between-calls t) (between-at t) between.Post between-Inv-loop between-μ-loop
-between-loop-again t c = between-on (between-low (c .before .before .before .before .before .before .before .before .before .before .before .before .before .before .before .before .before .before .before .before .before .before .args .tier) (c .before .before .before .before .before .before .before .before .before .before .before .before .before .before .before .before .before .before .before .before .before .before .pre .1 .1)) (sym (c .before .before .before .before .before .before .before .before .before .before .before .strength-of .ensures) ∙ c .before .before .before .before .before .before .before .before .before .before .if1 .left) (c .before .before .before .before .before .before .before .before .before .word-from .ensures) (rw (c .before .before .before .before .before .before .before .before .counted .ensures) at (c .before .before .before .before .before .before .expr2 .ensures)) (c .before .before .joined .ensures .0) (c .before .before .joined .ensures .1) (c .before .before .before .before .before .before .before .before .before .before .before .before .before .before .loop .inv)
+between-loop-again t c = between-on (between-low (c .before .before .before .before .before .before .before .before .before .before .before .before .before .before .before .before .before .before .before .before .before .args .tier) (c .before .before .before .before .before .before .before .before .before .before .before .before .before .before .before .before .before .before .before .before .before .pre .1 .1)) (sym (c .before .before .before .before .before .before .before .before .before .before .before .strength-of .ensures) ∙ c .before .before .before .before .before .before .before .before .before .before .if1 .left) (c .before .before .before .before .before .before .before .before .before .word-from .ensures) (rw (c .before .before .before .before .before .before .before .before .counted .ensures, c .before .before .before .before .before .before .before .before .before .before .before .before .before .before .loop .inv .kept) at (c .before .before .before .before .before .before .expr2 .ensures)) (c .before .before .joined .ensures .0) (c .before .before .joined .ensures .1) (c .before .before .before .before .before .before .before .before .before .before .before .before .before .before .loop .inv)
 
 abbrev expr-calls : ℕ → expr-lts.Claims
 expr-calls t = (strength-at-reads.Asked, strength-at-reads.Learnt, expr-below t, expr.Post, nothing-reads.Asked, nothing-reads.Learnt, word-from-reads.Asked, word-from-reads.Learnt, counted-reads.Asked, counted-reads.Learnt, negated-reads.Asked, negated-reads.Learnt, between-below t, between.Post, operand-below t, operand.Post)
@@ -119,25 +120,25 @@ expr-enum-known-op : (t : ℕ) → expr-lts.Need-enum-known-op (expr-calls t) (e
 expr-enum-known-op t c = search needs
 
 expr-add-expr : (t : ℕ) → expr-lts.Need-add-expr (expr-calls t) (expr-at t) expr.Post
-expr-add-expr t c = omega (arith, c .before .before .before .before .before .before .before .before .before .before .pre .1 .low)
+expr-add-expr t c = omega (arith, c .before .before .before .before .before .before .before .before .before .pre .1 .low)
 
 expr-expr-requires : (t : ℕ) → expr-lts.Need-expr-requires (expr-calls t) (expr-at t) expr.Post
-expr-expr-requires t c κs = (omega (arith, c .before .before .before .before .before .before .before .before .before .before .pre .0, (before-low (c .before .before .before .before .before .before .before .before .before .before .args .tier) _ (rw (c .before .before .before .before .op .given .1) at (c .before .before .before .before .before .before .strength-at .ensures)))), record { near = c .before .before .before .before .before .before .before .before .before .before .pre .1 .near; listed = c .before .before .before .before .before .before .before .before .before .before .pre .1 .listed; low = omega (arith, (before-low (c .before .before .before .before .before .before .before .before .before .before .args .tier) _ (rw (c .before .before .before .before .op .given .1) at (c .before .before .before .before .before .before .strength-at .ensures)))); few = c .before .before .before .before .before .before .before .before .before .before .pre .1 .few })
+expr-expr-requires t c κs = (omega (arith, c .before .before .before .before .before .before .before .before .before .pre .0, (before-low (c .before .before .before .before .before .before .before .before .before .args .tier) _ (rw (c .before .before .before .before .op .given .1) at (c .before .before .before .before .before .before .strength-at .ensures)))), record { near = c .before .before .before .before .before .before .before .before .before .pre .1 .near; listed = c .before .before .before .before .before .before .before .before .before .pre .1 .listed; low = omega (arith, (before-low (c .before .before .before .before .before .before .before .before .before .args .tier) _ (rw (c .before .before .before .before .op .given .1) at (c .before .before .before .before .before .before .strength-at .ensures)))); few = c .before .before .before .before .before .before .before .before .before .pre .1 .few })
 
 expr-same-length : (t : ℕ) → expr-lts.Need-same-length (expr-calls t) (expr-at t) expr.Post
-expr-same-length t c = c .before .before .expr .ensures .long
+expr-same-length t c = came-long (c .before .before .expr .ensures)
 
 expr-returns : (t : ℕ) → expr-lts.Need-returns (expr-calls t) (expr-at t) expr.Post
-expr-returns t c = before-skip (before-low (c .before .before .before .before .before .before .before .before .before .before .before .before .before .args .tier) _ (rw (c .before .before .before .before .before .before .before .op .given .1) at (c .before .before .before .before .before .before .before .before .before .strength-at .ensures))) (rw (c .before .before .before .before .before .before .before .op .given .1) at (c .before .before .before .before .before .before .before .before .before .strength-at .ensures)) (c .before .before .before .before .if1 .taken) (c .before .before .expr .ensures)
+expr-returns t c = before-skip (before-low (c .before .before .before .before .before .before .before .before .before .before .before .before .args .tier) _ (rw (c .before .before .before .before .before .before .before .op .given .1) at (c .before .before .before .before .before .before .before .before .before .strength-at .ensures))) (rw (c .before .before .before .before .before .before .before .op .given .1) at (c .before .before .before .before .before .before .before .before .before .strength-at .ensures)) (c .before .before .before .before .if1 .taken) (c .before .before .expr .ensures)
 
 expr-nothing-requires : (t : ℕ) → expr-lts.Need-nothing-requires (expr-calls t) (expr-at t) expr.Post
 expr-nothing-requires t c κs = search needs
 
 expr-returns-2 : (t : ℕ) → expr-lts.Need-returns-2 (expr-calls t) (expr-at t) expr.Post
-expr-returns-2 t c = before-deep (before-low (c .before .before .before .before .before .before .before .before .before .before .before .args .tier) _ (rw (c .before .before .before .before .before .op .given .1) at (c .before .before .before .before .before .before .before .strength-at .ensures))) (rw (c .before .before .before .before .before .op .given .1) at (c .before .before .before .before .before .before .before .strength-at .ensures)) (c .before .before .if1 .left) (c .before .if2 .taken) (c .before .before .before .before .before .before .before .before .before .before .before .pre .1 .near) (c .nothing .ensures)
+expr-returns-2 t c = before-deep (before-low (c .before .before .before .before .before .before .before .before .before .before .args .tier) _ (rw (c .before .before .before .before .before .op .given .1) at (c .before .before .before .before .before .before .before .strength-at .ensures))) (rw (c .before .before .before .before .before .op .given .1) at (c .before .before .before .before .before .before .before .strength-at .ensures)) (c .before .before .if1 .left) (c .before .if2 .taken) (c .before .before .before .before .before .before .before .before .before .before .pre .1 .near) (c .nothing .ensures)
 
 expr-word-from-requires : (t : ℕ) → expr-lts.Need-word-from-requires (expr-calls t) (expr-at t) expr.Post
-expr-word-from-requires t c κs = (c .before .before .before .before .before .before .before .before .before .before .pre .1 .near .short, c .before .before .before .before .before .before .before .before .before .before .pre .1 .near .inside)
+expr-word-from-requires t c κs = (c .before .before .before .before .before .before .before .before .before .pre .1 .near .short, c .before .before .before .before .before .before .before .before .before .pre .1 .near .inside)
 
 expr-counted-requires : (t : ℕ) → expr-lts.Need-counted-requires (expr-calls t) (expr-at t) expr.Post
 expr-counted-requires t c κs = search needs
@@ -146,25 +147,25 @@ expr-sub-expr : (t : ℕ) → expr-lts.Need-sub-expr (expr-calls t) (expr-at t) 
 expr-sub-expr t c = omega (arith, c .before .before .before .if2 .left)
 
 expr-expr-requires-2 : (t : ℕ) → expr-lts.Need-expr-requires-2 (expr-calls t) (expr-at t) expr.Post
-expr-expr-requires-2 t c κs = (omega (arith, c .before .before .before .before .before .before .before .before .before .before .before .before .before .pre .0, c .before .before .before .if2 .left), record { near = c .before .before .word-from .ensures .near; listed = c .before .before .before .before .before .before .before .before .before .before .before .before .before .pre .1 .listed; low = c .before .before .before .before .before .before .before .before .before .before .before .before .before .pre .1 .low; few = omega (arith, c .before .before .before .before .before .before .before .before .before .before .before .before .before .pre .1 .few) })
+expr-expr-requires-2 t c κs = (omega (arith, c .before .before .before .before .before .before .before .before .before .before .before .before .pre .0, c .before .before .before .if2 .left), record { near = c .before .before .word-from .ensures .near; listed = c .before .before .before .before .before .before .before .before .before .before .before .before .pre .1 .listed; low = c .before .before .before .before .before .before .before .before .before .before .before .before .pre .1 .low; few = omega (arith, c .before .before .before .before .before .before .before .before .before .before .before .before .pre .1 .few) })
 
 expr-negated-requires : (t : ℕ) → expr-lts.Need-negated-requires (expr-calls t) (expr-at t) expr.Post
 expr-negated-requires t c κs = search needs
 
 expr-same-length-2 : (t : ℕ) → expr-lts.Need-same-length-2 (expr-calls t) (expr-at t) expr.Post
-expr-same-length-2 t c = (before-on (before-low (c .before .before .before .before .before .before .before .before .before .before .before .before .before .before .before .before .before .before .before .before .args .tier) _ (rw (c .before .before .before .before .before .before .before .before .before .before .before .before .before .before .op .given .1) at (c .before .before .before .before .before .before .before .before .before .before .before .before .before .before .before .before .strength-at .ensures))) (rw (c .before .before .before .before .before .before .before .before .before .before .before .before .before .before .op .given .1) at (c .before .before .before .before .before .before .before .before .before .before .before .before .before .before .before .before .strength-at .ensures)) (c .before .before .before .before .before .before .before .before .before .before .before .if1 .left) (c .before .before .before .before .before .before .before .before .before .before .before .before .before .before .before .before .before .before .before .before .pre .1 .near) (c .before .before .before .before .before .before .before .before .before .word-from .ensures) (rw (c .before .before .before .before .before .before .before .before .counted .ensures) at (c .before .before .before .before .before .before .expr2 .ensures)) (c .before .before .negated .ensures .0) (c .before .before .negated .ensures .1)) .long
+expr-same-length-2 t c = came-long ((before-on (before-low (c .before .before .before .before .before .before .before .before .before .before .before .before .before .before .before .before .before .before .before .args .tier) _ (rw (c .before .before .before .before .before .before .before .before .before .before .before .before .before .before .op .given .1) at (c .before .before .before .before .before .before .before .before .before .before .before .before .before .before .before .before .strength-at .ensures))) (rw (c .before .before .before .before .before .before .before .before .before .before .before .before .before .before .op .given .1) at (c .before .before .before .before .before .before .before .before .before .before .before .before .before .before .before .before .strength-at .ensures)) (c .before .before .before .before .before .before .before .before .before .before .before .if1 .left) (c .before .before .before .before .before .before .before .before .before .before .before .before .before .before .before .before .before .before .before .pre .1 .near) (c .before .before .before .before .before .before .before .before .before .word-from .ensures) (rw (c .before .before .before .before .before .before .before .before .counted .ensures) at (c .before .before .before .before .before .before .expr2 .ensures)) (c .before .before .negated .ensures .0) (c .before .before .negated .ensures .1)))
 
 expr-returns-3 : (t : ℕ) → expr-lts.Need-returns-3 (expr-calls t) (expr-at t) expr.Post
-expr-returns-3 t c = before-on (before-low (c .before .before .before .before .before .before .before .before .before .before .before .before .before .before .before .before .before .before .before .before .args .tier) _ (rw (c .before .before .before .before .before .before .before .before .before .before .before .before .before .before .op .given .1) at (c .before .before .before .before .before .before .before .before .before .before .before .before .before .before .before .before .strength-at .ensures))) (rw (c .before .before .before .before .before .before .before .before .before .before .before .before .before .before .op .given .1) at (c .before .before .before .before .before .before .before .before .before .before .before .before .before .before .before .before .strength-at .ensures)) (c .before .before .before .before .before .before .before .before .before .before .before .if1 .left) (c .before .before .before .before .before .before .before .before .before .before .before .before .before .before .before .before .before .before .before .before .pre .1 .near) (c .before .before .before .before .before .before .before .before .before .word-from .ensures) (rw (c .before .before .before .before .before .before .before .before .counted .ensures) at (c .before .before .before .before .before .before .expr2 .ensures)) (c .before .before .negated .ensures .0) (c .before .before .negated .ensures .1)
+expr-returns-3 t c = before-on (before-low (c .before .before .before .before .before .before .before .before .before .before .before .before .before .before .before .before .before .before .before .args .tier) _ (rw (c .before .before .before .before .before .before .before .before .before .before .before .before .before .before .op .given .1) at (c .before .before .before .before .before .before .before .before .before .before .before .before .before .before .before .before .strength-at .ensures))) (rw (c .before .before .before .before .before .before .before .before .before .before .before .before .before .before .op .given .1) at (c .before .before .before .before .before .before .before .before .before .before .before .before .before .before .before .before .strength-at .ensures)) (c .before .before .before .before .before .before .before .before .before .before .before .if1 .left) (c .before .before .before .before .before .before .before .before .before .before .before .before .before .before .before .before .before .before .before .pre .1 .near) (c .before .before .before .before .before .before .before .before .before .word-from .ensures) (rw (c .before .before .before .before .before .before .before .before .counted .ensures) at (c .before .before .before .before .before .before .expr2 .ensures)) (c .before .before .negated .ensures .0) (c .before .before .negated .ensures .1)
 
 expr-enum-told : (t : ℕ) → expr-lts.Need-enum-told (expr-calls t) (expr-at t) expr.Post
 expr-enum-told t c = search needs
 
 expr-between-requires : (t : ℕ) → expr-lts.Need-between-requires (expr-calls t) (expr-at t) expr.Post
-expr-between-requires t c κs = (omega (arith, c .before .before .before .before .before .before .before .pre .0), (c .before .before .before .before .before .before .before .pre .1, rw (c .before .enum-told .given .1) at (c .before .before .before .strength-at .ensures)))
+expr-between-requires t c κs = (omega (arith, c .before .before .before .before .before .before .pre .0), (c .before .before .before .before .before .before .pre .1, rw (c .before .enum-told .given .1) at (c .before .before .before .strength-at .ensures)))
 
 expr-same-length-3 : (t : ℕ) → expr-lts.Need-same-length-3 (expr-calls t) (expr-at t) expr.Post
-expr-same-length-3 t c = c .before .before .between .ensures .long
+expr-same-length-3 t c = came-long (c .before .before .between .ensures)
 
 expr-returns-4 : (t : ℕ) → expr-lts.Need-returns-4 (expr-calls t) (expr-at t) expr.Post
 expr-returns-4 t c = c .before .before .between .ensures
@@ -173,10 +174,10 @@ expr-enum-told-2 : (t : ℕ) → expr-lts.Need-enum-told-2 (expr-calls t) (expr-
 expr-enum-told-2 t c = search needs
 
 expr-operand-requires : (t : ℕ) → expr-lts.Need-operand-requires (expr-calls t) (expr-at t) expr.Post
-expr-operand-requires t c κs = (omega (arith, c .before .before .before .before .before .before .before .pre .0), (c .before .before .before .before .before .before .before .pre .1, rw (c .before .enum-told2 .given .1) at (c .before .before .before .strength-at .ensures)))
+expr-operand-requires t c κs = (omega (arith, c .before .before .before .before .before .before .pre .0), (c .before .before .before .before .before .before .pre .1, rw (c .before .enum-told2 .given .1) at (c .before .before .before .strength-at .ensures)))
 
 expr-same-length-4 : (t : ℕ) → expr-lts.Need-same-length-4 (expr-calls t) (expr-at t) expr.Post
-expr-same-length-4 t c = c .before .before .operand .ensures .long
+expr-same-length-4 t c = came-long (c .before .before .operand .ensures)
 
 expr-returns-5 : (t : ℕ) → expr-lts.Need-returns-5 (expr-calls t) (expr-at t) expr.Post
 expr-returns-5 t c = c .before .before .operand .ensures
@@ -188,43 +189,44 @@ operand-operand-row-requires : (t : ℕ) → operand-lts.Need-operand-row-requir
 operand-operand-row-requires t c κs = search needs
 
 operand-plain-requires : (t : ℕ) → operand-lts.Need-plain-requires (operand-calls t) (operand-at t) operand.Post
-operand-plain-requires t c κs = (c .before .before .before .before .before .before .pre .1 .0 .near, c .before .before .before .before .before .before .pre .1 .0 .listed, c .before .if1 .taken)
+unfolding beside
+operand-plain-requires t c κs = (c .before .before .before .before .before .pre .1 .0 .near, c .before .before .before .before .before .pre .1 .0 .listed, c .before .if1 .taken)
 
 operand-same-length : (t : ℕ) → operand-lts.Need-same-length (operand-calls t) (operand-at t) operand.Post
-operand-same-length t c = c .before .before .plain .ensures .long
+operand-same-length t c = plain-long (c .before .before .plain .ensures)
 
 operand-returns : (t : ℕ) → operand-lts.Need-returns (operand-calls t) (operand-at t) operand.Post
-operand-returns t c = operand-plain (c .before .before .before .before .before .before .before .before .before .pre .1 .1) (c .before .before .before .before .before .operand-row .ensures) (c .before .before .plain .ensures)
+operand-returns t c = operand-plain (c .before .before .before .before .before .before .before .before .pre .1 .1) (c .before .before .before .before .before .operand-row .ensures) (c .before .before .plain .ensures)
 
 operand-nothing-requires : (t : ℕ) → operand-lts.Need-nothing-requires (operand-calls t) (operand-at t) operand.Post
 operand-nothing-requires t c κs = search needs
 
 operand-returns-2 : (t : ℕ) → operand-lts.Need-returns-2 (operand-calls t) (operand-at t) operand.Post
-operand-returns-2 t c = operand-deep (c .before .before .before .before .before .before .before .pre .1 .1) (c .before .before .before .operand-row .ensures) (λ z. omega (arith, c .before .before .if1 .left)) (c .before .if2 .taken) (c .before .before .before .before .before .before .before .pre .1 .0 .near) (c .nothing .ensures)
+operand-returns-2 t c = operand-deep (c .before .before .before .before .before .before .pre .1 .1) (c .before .before .before .operand-row .ensures) (λ z. omega (arith, c .before .before .if1 .left)) (c .before .if2 .taken) (c .before .before .before .before .before .before .pre .1 .0 .near) (c .nothing .ensures)
 
 operand-word-from-requires : (t : ℕ) → operand-lts.Need-word-from-requires (operand-calls t) (operand-at t) operand.Post
-operand-word-from-requires t c κs = (c .before .before .before .before .before .before .pre .1 .0 .near .short, c .before .before .before .before .before .before .pre .1 .0 .near .inside)
+operand-word-from-requires t c κs = (c .before .before .before .before .before .pre .1 .0 .near .short, c .before .before .before .before .before .pre .1 .0 .near .inside)
 
 operand-sub-expr : (t : ℕ) → operand-lts.Need-sub-expr (operand-calls t) (operand-at t) operand.Post
 operand-sub-expr t c = omega (arith, c .before .before .before .if2 .left)
 
 operand-expr-requires : (t : ℕ) → operand-lts.Need-expr-requires (operand-calls t) (operand-at t) operand.Post
-operand-expr-requires t c κs = (omega (arith, c .before .before .before .before .before .before .before .before .before .pre .0, c .before .before .before .if2 .left, c .before .before .before .before .before .before .before .before .before .pre .1 .0 .low), record { near = c .before .before .word-from .ensures .near; listed = c .before .before .before .before .before .before .before .before .before .pre .1 .0 .listed; low = omega arith; few = omega (arith, c .before .before .before .before .before .before .before .before .before .pre .1 .0 .few) })
+operand-expr-requires t c κs = (omega (arith, c .before .before .before .before .before .before .before .before .pre .0, c .before .before .before .if2 .left, c .before .before .before .before .before .before .before .before .pre .1 .0 .low), record { near = c .before .before .word-from .ensures .near; listed = c .before .before .before .before .before .before .before .before .pre .1 .0 .listed; low = omega arith; few = omega (arith, c .before .before .before .before .before .before .before .before .pre .1 .0 .few) })
 
 operand-word-from-requires-2 : (t : ℕ) → operand-lts.Need-word-from-requires-2 (operand-calls t) (operand-at t) operand.Post
-operand-word-from-requires-2 t c κs = (c .before .before .before .before .before .before .before .before .before .before .before .before .before .pre .1 .0 .near .short, c .before .before .before .expr .ensures .near .inside)
+operand-word-from-requires-2 t c κs = (c .before .before .before .before .before .before .before .before .before .before .before .before .pre .1 .0 .near .short, c .before .before .before .expr .ensures .near .inside)
 
 operand-behind-requires : (t : ℕ) → operand-lts.Need-behind-requires (operand-calls t) (operand-at t) operand.Post
 operand-behind-requires t c κs = search needs
 
 operand-same-length-2 : (t : ℕ) → operand-lts.Need-same-length-2 (operand-calls t) (operand-at t) operand.Post
-operand-same-length-2 t c = c .before .before .before .before .before .expr .ensures .long
+operand-same-length-2 t c = came-long (c .before .before .before .before .before .expr .ensures)
 
 operand-returns-3 : (t : ℕ) → operand-lts.Need-returns-3 (operand-calls t) (operand-at t) operand.Post
-operand-returns-3 t c = operand-open (c .before .before .before .before .before .before .before .before .before .before .before .before .before .before .before .pre .1 .1) (c .before .before .before .before .before .before .before .before .before .before .before .operand-row .ensures) (c .before .before .before .before .before .before .before .if3 .taken) (c .before .before .before .before .before .before .before .before .before .before .before .before .before .before .before .pre .1 .0 .near) (c .before .before .before .before .before .before .before .before .word-from .ensures) (c .before .before .before .before .before .expr .ensures) (c .before .word-from2 .ensures) (c .behind .ensures .0) (c .behind .ensures .1)
+operand-returns-3 t c = operand-open (c .before .before .before .before .before .before .before .before .before .before .before .before .before .before .pre .1 .1) (c .before .before .before .before .before .before .before .before .before .before .before .operand-row .ensures) (c .before .before .before .before .before .before .before .if3 .taken) (c .before .before .before .before .before .before .before .before .before .before .before .before .before .before .pre .1 .0 .near) (c .before .before .before .before .before .before .before .before .word-from .ensures) (c .before .before .before .before .before .expr .ensures) (c .before .word-from2 .ensures) (c .behind .ensures .0) (c .behind .ensures .1)
 
 operand-word-from-requires-3 : (t : ℕ) → operand-lts.Need-word-from-requires-3 (operand-calls t) (operand-at t) operand.Post
-operand-word-from-requires-3 t c κs = (c .before .before .before .before .before .before .before .before .pre .1 .0 .near .short, c .before .word-from .ensures .near .inside)
+operand-word-from-requires-3 t c κs = (c .before .before .before .before .before .before .before .pre .1 .0 .near .short, c .before .word-from .ensures .near .inside)
 
 operand-counted-requires : (t : ℕ) → operand-lts.Need-counted-requires (operand-calls t) (operand-at t) operand.Post
 operand-counted-requires t c κs = search needs
@@ -233,19 +235,19 @@ operand-sub-expr-2 : (t : ℕ) → operand-lts.Need-sub-expr-2 (operand-calls t)
 operand-sub-expr-2 t c = omega (arith, c .before .before .before .before .before .if2 .left)
 
 operand-expr-requires-2 : (t : ℕ) → operand-lts.Need-expr-requires-2 (operand-calls t) (operand-at t) operand.Post
-operand-expr-requires-2 t c κs = (omega (arith, c .before .before .before .before .before .before .before .before .before .before .before .pre .0, c .before .before .before .before .before .if2 .left, c .before .before .before .before .before .before .before .before .before .before .before .pre .1 .0 .low), record { near = c .before .before .word-from3 .ensures .near; listed = c .before .before .before .before .before .before .before .before .before .before .before .pre .1 .0 .listed; low = omega arith; few = omega (arith, c .before .before .before .before .before .before .before .before .before .before .before .pre .1 .0 .few) })
+operand-expr-requires-2 t c κs = (omega (arith, c .before .before .before .before .before .before .before .before .before .before .pre .0, c .before .before .before .before .before .if2 .left, c .before .before .before .before .before .before .before .before .before .before .pre .1 .0 .low), record { near = c .before .before .word-from3 .ensures .near; listed = c .before .before .before .before .before .before .before .before .before .before .pre .1 .0 .listed; low = omega arith; few = omega (arith, c .before .before .before .before .before .before .before .before .before .before .pre .1 .0 .few) })
 
 operand-word-from-requires-4 : (t : ℕ) → operand-lts.Need-word-from-requires-4 (operand-calls t) (operand-at t) operand.Post
-operand-word-from-requires-4 t c κs = (c .before .before .before .before .before .before .before .before .before .before .before .before .before .before .before .before .pre .1 .0 .near .short, c .before .before .before .before .expr2 .ensures .near .inside)
+operand-word-from-requires-4 t c κs = (c .before .before .before .before .before .before .before .before .before .before .before .before .before .before .before .pre .1 .0 .near .short, c .before .before .before .before .expr2 .ensures .near .inside)
 
 operand-int-of-requires : (t : ℕ) → operand-lts.Need-int-of-requires (operand-calls t) (operand-at t) operand.Post
 operand-int-of-requires t c κs = search needs
 
 operand-same-length-3 : (t : ℕ) → operand-lts.Need-same-length-3 (operand-calls t) (operand-at t) operand.Post
-operand-same-length-3 t c = (operand-int (c .before .before .before .before .before .before .before .before .before .before .before .before .before .before .before .before .before .before .before .before .pre .1 .1) (c .before .before .before .before .before .before .before .before .before .before .before .before .before .before .before .before .operand-row .ensures) (λ z. omega (arith, c .before .before .before .before .before .before .before .before .before .before .before .before .before .before .before .if1 .left)) (c .before .before .before .before .before .before .before .before .before .before .before .before .if3 .left) (c .before .before .before .before .before .before .before .before .before .before .before .before .before .before .before .before .before .before .before .before .pre .1 .0 .near) (c .before .before .before .before .before .before .before .before .before .before .before .before .before .word-from .ensures) (c .before .before .before .before .before .before .before .before .before .before .before .word-from3 .ensures) (rw (c .before .before .before .before .before .before .before .before .before .before .counted .ensures) at (c .before .before .before .before .before .before .before .before .expr2 .ensures)) (c .before .before .before .word-from4 .ensures) (c .before .before .int-of .ensures .0) (c .before .before .int-of .ensures .1)) .long
+operand-same-length-3 t c = came-long ((operand-int (c .before .before .before .before .before .before .before .before .before .before .before .before .before .before .before .before .before .before .before .pre .1 .1) (c .before .before .before .before .before .before .before .before .before .before .before .before .before .before .before .before .operand-row .ensures) (λ z. omega (arith, c .before .before .before .before .before .before .before .before .before .before .before .before .before .before .before .if1 .left)) (c .before .before .before .before .before .before .before .before .before .before .before .before .if3 .left) (c .before .before .before .before .before .before .before .before .before .before .before .before .before .before .before .before .before .before .before .pre .1 .0 .near) (c .before .before .before .before .before .before .before .before .before .before .before .before .before .word-from .ensures) (c .before .before .before .before .before .before .before .before .before .before .before .word-from3 .ensures) (rw (c .before .before .before .before .before .before .before .before .before .before .counted .ensures) at (c .before .before .before .before .before .before .before .before .expr2 .ensures)) (c .before .before .before .word-from4 .ensures) (c .before .before .int-of .ensures .0) (c .before .before .int-of .ensures .1)))
 
 operand-returns-4 : (t : ℕ) → operand-lts.Need-returns-4 (operand-calls t) (operand-at t) operand.Post
-operand-returns-4 t c = operand-int (c .before .before .before .before .before .before .before .before .before .before .before .before .before .before .before .before .before .before .before .before .pre .1 .1) (c .before .before .before .before .before .before .before .before .before .before .before .before .before .before .before .before .operand-row .ensures) (λ z. omega (arith, c .before .before .before .before .before .before .before .before .before .before .before .before .before .before .before .if1 .left)) (c .before .before .before .before .before .before .before .before .before .before .before .before .if3 .left) (c .before .before .before .before .before .before .before .before .before .before .before .before .before .before .before .before .before .before .before .before .pre .1 .0 .near) (c .before .before .before .before .before .before .before .before .before .before .before .before .before .word-from .ensures) (c .before .before .before .before .before .before .before .before .before .before .before .word-from3 .ensures) (rw (c .before .before .before .before .before .before .before .before .before .before .counted .ensures) at (c .before .before .before .before .before .before .before .before .expr2 .ensures)) (c .before .before .before .word-from4 .ensures) (c .before .before .int-of .ensures .0) (c .before .before .int-of .ensures .1)
+operand-returns-4 t c = operand-int (c .before .before .before .before .before .before .before .before .before .before .before .before .before .before .before .before .before .before .before .pre .1 .1) (c .before .before .before .before .before .before .before .before .before .before .before .before .before .before .before .before .operand-row .ensures) (λ z. omega (arith, c .before .before .before .before .before .before .before .before .before .before .before .before .before .before .before .if1 .left)) (c .before .before .before .before .before .before .before .before .before .before .before .before .if3 .left) (c .before .before .before .before .before .before .before .before .before .before .before .before .before .before .before .before .before .before .before .pre .1 .0 .near) (c .before .before .before .before .before .before .before .before .before .before .before .before .before .word-from .ensures) (c .before .before .before .before .before .before .before .before .before .before .before .word-from3 .ensures) (rw (c .before .before .before .before .before .before .before .before .before .before .counted .ensures) at (c .before .before .before .before .before .before .before .before .expr2 .ensures)) (c .before .before .before .word-from4 .ensures) (c .before .before .int-of .ensures .0) (c .before .before .int-of .ensures .1)
 
 pub +between+expr+operand-spec : {M : Type 1} → statement M
 +between+expr+operand-spec = close μ-between μ-expr μ-operand

@@ -1,6 +1,9 @@
 -- `plain::assign` meets its contract.
 -- Assumes nothing.
 use mathlib.Core.Path.{refl, _∙_}
+use native.Mathlib.Omega.{arith}
+use Rattle.parts.specs.Beside.{beside}
+use Rattle.parts.proofs.Beside.{same-size}
 use Rattle.plain.proofs.Laws.{plain-assign}
 use borrow.Author.Needs.{needs}
 use Rattle.plain.proofs.assign.Statement.{statement}
@@ -19,7 +22,8 @@ expr-requires : tie.Need-expr-requires
 expr-requires c κs = search needs
 
 find-requires : tie.Need-find-requires
-find-requires c κs = c .before .before .before .before .before .before .before .before .before .before .before .before .pre .listed
+unfolding beside
+find-requires c κs = omega (arith, c .before .before .before .before .before .before .before .before .before .before .before .before .pre .listed, same-size (c .before .before .before .before .expr .ensures .kept))
 
 number-of-requires : tie.Need-number-of-requires
 number-of-requires c κs = search needs
@@ -37,10 +41,11 @@ finish-requires : tie.Need-finish-requires
 finish-requires c κs = search needs
 
 same-length : tie.Need-same-length
+unfolding beside
 same-length c =
     let k₁ = c .before .before in
-    let k₂ = k₁ .before .before .before .before .before .before .before .before .before .before in
-    k₁ .finish .ensures .long ∙ k₂ .expr .ensures .long
+    let k₂ = k₁ .before .before .before .before .before .before .before .before .before .before .before in
+    same-size (k₁ .finish .ensures .kept ∙ k₂ .expr .ensures .kept)
 
 returns : tie.Need-returns
 returns c =
@@ -49,12 +54,12 @@ returns c =
     let k₃ = k₂ .before in
     let k₄ = k₃ .before in
     let k₅ = k₄ .before in
-    let k₆ = k₅ .before .before .before .before in
+    let k₆ = k₅ .before .before .before .before .before in
     let k₇ = k₆ .before .before in
     let k₈ = k₇ .before in
     let k₉ = k₈ .before .before in
-    let k₁₀ = k₉ .before .before .before .before in
-    λ l b. plain-assign (k₁₀ .pre .near) (k₉ .begun .ensures) (k₈ .word-from .ensures) refl (k₇ .word-from2 .ensures) (k₆ .expr .ensures) (k₅ .find .ensures) (k₄ .number-of .ensures) (k₃ .width-of .ensures) (k₂ .assigned .ensures) (k₁ .finish .ensures)
+    let k₁₀ = k₉ .before .before .before in
+    λ l b. plain-assign (k₁₀ .pre .near) (k₉ .begun .ensures) (k₈ .word-from .ensures) refl (k₇ .word-from2 .ensures) (k₆ .expr .ensures) (rw (k₆ .expr .ensures .kept) at (k₅ .find .ensures)) (k₄ .number-of .ensures) (k₃ .width-of .ensures) (k₂ .assigned .ensures) (k₁ .finish .ensures)
 
 pub assign-spec : {M : Type 1} → statement M
 assign-spec =

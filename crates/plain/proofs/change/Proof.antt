@@ -1,5 +1,6 @@
 -- `plain::change` meets its contract.
 -- Assumes nothing.
+use Rattle.parts.specs.Beside.{beside}
 use Rattle.plain.proofs.Laws.{change-whole, change-part}
 use borrow.Author.Needs.{needs}
 use Rattle.plain.proofs.change.Statement.{statement}
@@ -15,7 +16,8 @@ word-from-requires-2 : tie.Need-word-from-requires-2
 word-from-requires-2 c κs = search needs
 
 find-requires : tie.Need-find-requires
-find-requires c κs = search needs
+unfolding beside
+find-requires c κs = c .before .before .before .before .before .before .pre .2 .listed
 
 number-of-requires : tie.Need-number-of-requires
 number-of-requires c κs = search needs
@@ -48,10 +50,10 @@ returns c =
     let k₆ = k₅ .before in
     let k₇ = k₆ .before in
     let k₈ = k₇ .before in
-    let k₉ = k₈ .before in
+    let k₉ = k₈ .before .before in
     let k₁₀ = k₉ .before in
     let k₁₁ = k₁₀ .before in
-    let k₁₂ = k₁₁ .before .before .before .before in
+    let k₁₂ = k₁₁ .before .before .before in
     λ l b. change-whole (k₁₂ .pre .2 .near) (k₁₁ .begun .ensures) (k₁₀ .word-from .ensures) (k₉ .word-from2 .ensures) (k₅ .word-from3 .ensures) (k₄ .word-from4 .ensures) (k₈ .find .ensures) (k₇ .number-of .ensures) (k₆ .width-of .ensures) (k₁₂ .pre .0) (k₁₂ .pre .1) (k₃ .if1 .taken) (k₂ .changed .ensures) (k₁ .finish .ensures)
 
 word-from-requires-5 : tie.Need-word-from-requires-5
@@ -85,10 +87,10 @@ returns-2 c =
     let k₉ = k₈ .before in
     let k₁₀ = k₉ .before in
     let k₁₁ = k₁₀ .before in
-    let k₁₂ = k₁₁ .before in
+    let k₁₂ = k₁₁ .before .before in
     let k₁₃ = k₁₂ .before in
     let k₁₄ = k₁₃ .before in
-    let k₁₅ = k₁₄ .before .before .before .before in
+    let k₁₅ = k₁₄ .before .before .before in
     λ l b. change-part (k₁₅ .pre .2 .near) (k₁₄ .begun .ensures) (k₁₃ .word-from .ensures) (k₁₂ .word-from2 .ensures) (k₈ .word-from3 .ensures) (k₇ .word-from4 .ensures) (k₁₁ .find .ensures) (k₁₀ .number-of .ensures) (k₉ .width-of .ensures) (k₁₅ .pre .0) (k₁₅ .pre .1) (k₆ .if1 .left) (k₅ .word-from5 .ensures) (k₄ .word-from6 .ensures) (k₃ .word-from7 .ensures) (k₂ .bit-changed .ensures) (k₁ .finish2 .ensures)
 
 pub change-spec : {M : Type 1} → statement M

@@ -32,7 +32,7 @@ returns-2 c =
     let k₂ = k₁ .before .before in
     let k₃ = k₂ .before in
     let k₄ = k₃ .before in
-    let k₅ = k₄ .before .before .before .before .before in
+    let k₅ = k₄ .before .before .before .before in
     plain-skip (k₅ .pre .1 .near) (k₄ .begun .ensures) (k₃ .word-from .ensures) (k₂ .if2 .taken) (k₁ .finish .ensures)
 
 leaves-requires : tie.Need-leaves-requires
@@ -51,7 +51,7 @@ returns-3 c =
     let k₃ = k₂ .before in
     let k₄ = k₃ .before .before in
     let k₅ = k₄ .before in
-    let k₆ = k₅ .before .before .before .before .before in
+    let k₆ = k₅ .before .before .before .before in
     plain-exit (k₆ .pre .1 .near) (k₅ .begun .ensures) (k₄ .word-from .ensures) (k₃ .if3 .taken) (k₂ .leaves .ensures) (k₁ .finish2 .ensures)
 
 leaves-requires-2 : tie.Need-leaves-requires-2
@@ -70,7 +70,7 @@ returns-4 c =
     let k₃ = k₂ .before in
     let k₄ = k₃ .before .before .before in
     let k₅ = k₄ .before in
-    let k₆ = k₅ .before .before .before .before .before in
+    let k₆ = k₅ .before .before .before .before in
     plain-break (k₆ .pre .1 .near) (k₅ .begun .ensures) (k₄ .word-from .ensures) (k₃ .if4 .taken) (k₂ .leaves2 .ensures) (k₁ .finish3 .ensures)
 
 word-from-requires-2 : tie.Need-word-from-requires-2
@@ -93,7 +93,7 @@ returns-5 c =
     let k₄ = k₃ .before in
     let k₅ = k₄ .before .before .before .before in
     let k₆ = k₅ .before in
-    let k₇ = k₆ .before .before .before .before .before in
+    let k₇ = k₆ .before .before .before .before in
     plain-delay (k₇ .pre .1 .near) (k₆ .begun .ensures) (k₅ .word-from .ensures) (k₄ .if5 .taken) (k₃ .word-from2 .ensures) (k₂ .delayed .ensures) (k₁ .finish4 .ensures)
 
 change-requires : tie.Need-change-requires
@@ -103,7 +103,7 @@ change-requires c κs =
     let k₃ = k₂ .before in
     let k₄ = k₃ .before in
     let k₅ = k₄ .before .before .before in
-    let k₆ = k₅ .before .before .before .before in
+    let k₆ = k₅ .before .before .before in
     let (low, high) = plain-rows (k₆ .pre .0) (k₄ .if2 .left) (k₁ .if5 .left) (k₅ .if1 .left) (k₃ .if3 .left) (k₂ .if4 .left) in (low, high, k₆ .pre .1)
 
 same-length-6 : tie.Need-same-length-6

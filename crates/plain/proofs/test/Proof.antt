@@ -22,7 +22,7 @@ returns : tie.Need-returns
 returns c =
     let k₁ = c .before in
     let k₂ = k₁ .before .before .before .before in
-    let k₃ = k₂ .before .before .before .before .before .before in
+    let k₃ = k₂ .before .before .before .before .before in
     test-came (k₃ .pre .near) (k₂ .expr .ensures) (k₁ .word-from .ensures) (c .tested .ensures) refl
 
 pub test-spec : {M : Type 1} → statement M

@@ -1,11 +1,12 @@
 -- `source::read` meets its contract.
 -- Assumes nothing.
-use mathlib.Core.Path.{refl, subst}
+use mathlib.Core.Path.{refl, _∙_, subst}
 use native.Mathlib.Omega.{arith}
 use denote.Ref.{now}
 use borrow.Author.Needs.{needs}
 use Rattle.grammar.specs.Meaning.{Says}
-use Rattle.source.proofs.Entered.{refused-reads, program-entered}
+use Rattle.source.proofs.Entered.{refused-reads}
+use Rattle.source.proofs.Lent.{area-entered, all-long, names-fit, still-zero}
 use Rattle.source.proofs.Whole.{refused-told, good-told}
 use Rattle.source.proofs.read.Statement.{statement}
 use Rattle.source.proofs.read.Tie as tie
@@ -17,16 +18,28 @@ enum-known-number : tie.Need-enum-known-number
 enum-known-number c = search needs
 
 returns : tie.Need-returns
-returns c = (refused-reads (now (c .before .before .before .before .before .before .before .args .s)) _ _ (subst (Says (now (c .before .before .before .before .before .before .before .args .s))) (c .before .number .given .1) (c .before .before .before .check .ensures)), refl)
+returns c = (refused-reads (now (c .before .before .before .before .before .before .args .s)) _ _ (subst (Says (now (c .before .before .before .before .before .before .args .s))) (c .before .number .given .1) (c .before .before .before .check .ensures)), refl)
 
 enum-told : tie.Need-enum-told
 enum-told c = search needs
 
-declared-requires : tie.Need-declared-requires
-declared-requires c κs = ((subst (Says (now (c .before .before .before .before .before .before .before .args .s))) (c .before .enum-told .given .1) (c .before .before .before .check .ensures)) .0, c .before .before .before .before .before .before .before .pre .0)
+clear-requires : tie.Need-clear-requires
+clear-requires c κs = search needs
+
+names-requires : tie.Need-names-requires
+names-requires c κs =
+    let k₁ = c .before .before .before in
+    let k₂ = k₁ .before .before in
+    let k₃ = k₂ .before .before in
+    let k₄ = k₃ .before .before .before in
+    ((subst (Says (now (k₄ .args .s))) (k₂ .enum-told .given .1) (k₃ .check .ensures)) .0, omega (arith, k₁ .clear .ensures .0, k₄ .pre))
 
 body-requires : tie.Need-body-requires
-body-requires c κs = (c .before .before .before .before .before .declared .ensures .near, omega (arith, c .before .before .before .before .before .declared .ensures .few, c .before .before .before .before .before .declared .ensures .long, c .before .before .before .before .before .before .before .before .before .before .before .before .before .pre .0))
+body-requires c κs =
+    let k₁ = c .before .before .before .before in
+    let k₂ = k₁ .before .before .before .before in
+    let k₃ = k₂ .before .before .before .before .before .before .before in
+    names-fit (omega (arith, k₂ .clear .ensures .0, k₃ .pre)) (k₁ .names .ensures)
 
 least-requires : tie.Need-least-requires
 least-requires c κs = search needs
@@ -41,13 +54,30 @@ enum-known-number-2 : tie.Need-enum-known-number-2
 enum-known-number-2 c = search needs
 
 same-length : tie.Need-same-length
-same-length c = search needs
-
-same-length-2 : tie.Need-same-length-2
-same-length-2 c = search needs
+same-length c =
+    let k₁ = c .before .before .before in
+    let k₂ = k₁ .before in
+    let k₃ = k₂ .before in
+    let k₄ = k₃ .before .before .before .before .before in
+    let k₅ = k₄ .before .before .before .before .before in
+    let k₆ = k₅ .before .before .before .before in
+    let k₇ = k₆ .before .before in
+    let k₈ = k₇ .before .before in
+    let k₉ = k₈ .before .before .before in
+    all-long (k₄ .body .ensures) ∙ k₅ .names .ensures .long ∙ k₆ .clear .ensures .0
 
 returns-2 : tie.Need-returns-2
-returns-2 c = (refused-told (program-entered (c .before .before .before .before .before .before .before .before .before .before .before .before .before .before .before .before .before .before .before .before .before .before .before .before .pre .0) (subst (Says (now (c .before .before .before .before .before .before .before .before .before .before .before .before .before .before .before .before .before .before .before .before .before .before .before .before .args .s))) (c .before .before .before .before .before .before .before .before .before .before .before .before .before .before .before .before .before .before .enum-told .given .1) (c .before .before .before .before .before .before .before .before .before .before .before .before .before .before .before .before .before .before .before .before .check .ensures)) (c .before .before .before .before .before .before .before .before .before .before .before .before .before .before .before .before .declared .ensures)) (c .before .before .before .before .before .before .before .before .before .before .body .ensures) (c .before .before .before .settle .result) (c .before .before .before .settle .ensures) (c .before .before .before .before .before .least .ensures) (c .before .before .before .before .least2 .ensures) _ _ (c .before .number2 .given .1), c .before .before .before .before .before .before .before .before .before .before .before .before .before .before .before .before .declared .ensures .long)
+returns-2 c =
+    let k₁ = c .before .before .before in
+    let k₂ = k₁ .before in
+    let k₃ = k₂ .before in
+    let k₄ = k₃ .before .before .before .before .before in
+    let k₅ = k₄ .before .before .before .before .before in
+    let k₆ = k₅ .before .before .before .before in
+    let k₇ = k₆ .before .before in
+    let k₈ = k₇ .before .before in
+    let k₉ = k₈ .before .before .before in
+    (refused-told (area-entered (omega (arith, k₆ .clear .ensures .0, k₉ .pre)) (subst (Says (now (k₉ .args .s))) (k₇ .enum-told .given .1) (k₈ .check .ensures)) (k₅ .names .ensures)) (k₄ .body .ensures) (k₁ .settle .result) (k₁ .settle .ensures) (k₃ .least .ensures) (k₂ .least2 .ensures) _ _ (c .before .number2 .given .1), all-long (k₄ .body .ensures) ∙ k₅ .names .ensures .long ∙ k₆ .clear .ensures .0)
 
 enum-told-2 : tie.Need-enum-told-2
 enum-told-2 c = search needs
@@ -58,14 +88,31 @@ cast-t23 c = search needs
 cast-t24 : tie.Need-cast-t24
 cast-t24 c = search needs
 
-same-length-3 : tie.Need-same-length-3
-same-length-3 c = search needs
-
-same-length-4 : tie.Need-same-length-4
-same-length-4 c = search needs
+same-length-2 : tie.Need-same-length-2
+same-length-2 c =
+    let k₁ = c .before .before .before .before in
+    let k₂ = k₁ .before in
+    let k₃ = k₂ .before in
+    let k₄ = k₃ .before .before .before .before .before in
+    let k₅ = k₄ .before .before .before .before .before in
+    let k₆ = k₅ .before .before .before .before in
+    let k₇ = k₆ .before .before in
+    let k₈ = k₇ .before .before in
+    let k₉ = k₈ .before .before .before in
+    all-long (k₄ .body .ensures) ∙ k₅ .names .ensures .long ∙ k₆ .clear .ensures .0
 
 returns-3 : tie.Need-returns-3
-returns-3 c = (good-told (program-entered (c .before .before .before .before .before .before .before .before .before .before .before .before .before .before .before .before .before .before .before .before .before .before .before .before .before .pre .0) (subst (Says (now (c .before .before .before .before .before .before .before .before .before .before .before .before .before .before .before .before .before .before .before .before .before .before .before .before .before .args .s))) (c .before .before .before .before .before .before .before .before .before .before .before .before .before .before .before .before .before .before .before .enum-told .given .1) (c .before .before .before .before .before .before .before .before .before .before .before .before .before .before .before .before .before .before .before .before .before .check .ensures)) (c .before .before .before .before .before .before .before .before .before .before .before .before .before .before .before .before .before .declared .ensures)) (c .before .before .before .before .before .before .before .before .before .before .before .body .ensures) (c .before .before .before .before .settle .result) (c .before .before .before .before .settle .ensures) (c .before .before .before .before .before .before .least .ensures) (c .before .before .before .before .before .least2 .ensures) (c .before .before .enum-told2 .given .1) (c .before .before .before .before .before .before .before .before .before .before .before .before .before .before .before .before .before .before .before .before .before .before .before .before .before .pre .1) (c .before .before .before .before .before .before .before .before .before .before .before .before .before .before .before .before .before .before .before .before .before .before .before .before .before .pre .2), c .before .before .before .before .before .before .before .before .before .before .before .before .before .before .before .before .before .declared .ensures .long)
+returns-3 c =
+    let k₁ = c .before .before .before .before in
+    let k₂ = k₁ .before in
+    let k₃ = k₂ .before in
+    let k₄ = k₃ .before .before .before .before .before in
+    let k₅ = k₄ .before .before .before .before .before in
+    let k₆ = k₅ .before .before .before .before in
+    let k₇ = k₆ .before .before in
+    let k₈ = k₇ .before .before in
+    let k₉ = k₈ .before .before .before in
+    (good-told (area-entered (omega (arith, k₆ .clear .ensures .0, k₉ .pre)) (subst (Says (now (k₉ .args .s))) (k₇ .enum-told .given .1) (k₈ .check .ensures)) (k₅ .names .ensures)) (k₄ .body .ensures) (k₁ .settle .result) (k₁ .settle .ensures) (k₃ .least .ensures) (k₂ .least2 .ensures) (c .before .before .enum-told2 .given .1) (omega (arith, k₅ .names .ensures .long, k₆ .clear .ensures .0, k₉ .pre)) (still-zero (k₅ .names .ensures) (k₆ .clear .ensures .1)), all-long (k₄ .body .ensures) ∙ k₅ .names .ensures .long ∙ k₆ .clear .ensures .0)
 
 pub read-spec : {M : Type 1} → statement M
 read-spec =
@@ -75,18 +122,17 @@ read-spec =
     enum-known-number
     returns
     enum-told
-    declared-requires
+    clear-requires
+    names-requires
     body-requires
     least-requires
     least-requires-2
     settle-requires
     enum-known-number-2
     same-length
-    same-length-2
     returns-2
     enum-told-2
     cast-t23
     cast-t24
-    same-length-3
-    same-length-4
+    same-length-2
     returns-3)

@@ -7,6 +7,8 @@ use native.Mathlib.Omega.{arith}
 use borrow.Author.Needs.{needs}
 use lib.ListN.{length}
 use Rattle.names.specs.Look.{lookIn}
+use Rattle.parts.specs.Beside.{beside}
+use Rattle.parts.proofs.Beside.{same-size}
 use Rattle.stmts.proofs.Laws.{one-row, one-none, one-if, loop-came, switch-came, parallel-came, while-came, if-came, else-came}
 use Rattle.stmts.proofs.Lists.{Going, list-start, list-ends, list-spare, list-on, case-came, CasesGoing, cases-start, cases-end, cases-on, branch-came, BranchesGoing, branches-start, branches-end, branches-on}
 use Prim.Native.Nat.{ℕ, _<_}
@@ -60,104 +62,104 @@ use Rattle.written.proofs.finish.Reads as finish-reads
 use Rattle.stmts.proofs.+branch+branches+cases+choice+list+loop_always+one_case+parallel+stmt+switch+while_loop.{statement}
 use Rattle.stmts.proofs.+branch+branches+cases+choice+list+loop_always+one_case+parallel+stmt+switch+while_loop.Tie.{close}
 
-abbrev μ-branch : Measures 3 branch-kinds.ps ℕ
-μ-branch κs a = a .1 .1 .1 .1 .1 .1 .1 .0 * 8 + 3
+abbrev μ-branch : Measures 2 branch-kinds.ps ℕ
+μ-branch κs a = a .1 .1 .1 .1 .1 .1 .0 * 8 + 3
 
-abbrev μ-branches : Measures 3 branches-kinds.ps ℕ
-μ-branches κs a = a .1 .1 .1 .1 .1 .1 .1 .0 * 8 + 4
+abbrev μ-branches : Measures 2 branches-kinds.ps ℕ
+μ-branches κs a = a .1 .1 .1 .1 .1 .1 .0 * 8 + 4
 
-abbrev μ-cases : Measures 3 cases-kinds.ps ℕ
-μ-cases κs a = a .1 .1 .1 .1 .1 .1 .1 .0 * 8 + 4
+abbrev μ-cases : Measures 2 cases-kinds.ps ℕ
+μ-cases κs a = a .1 .1 .1 .1 .1 .1 .0 * 8 + 4
 
-abbrev μ-choice : Measures 3 choice-kinds.ps ℕ
-μ-choice κs a = a .1 .1 .1 .1 .1 .1 .1 .1 .0 * 8
+abbrev μ-choice : Measures 2 choice-kinds.ps ℕ
+μ-choice κs a = a .1 .1 .1 .1 .1 .1 .1 .0 * 8
 
-abbrev μ-list : Measures 3 list-kinds.ps ℕ
-μ-list κs a = a .1 .1 .1 .1 .1 .1 .1 .1 .0 * 8 + 2
+abbrev μ-list : Measures 2 list-kinds.ps ℕ
+μ-list κs a = a .1 .1 .1 .1 .1 .1 .1 .0 * 8 + 2
 
-abbrev μ-loop-always : Measures 3 loop-always-kinds.ps ℕ
-μ-loop-always κs a = a .1 .1 .1 .1 .1 .1 .1 .0 * 8
+abbrev μ-loop-always : Measures 2 loop-always-kinds.ps ℕ
+μ-loop-always κs a = a .1 .1 .1 .1 .1 .1 .0 * 8
 
-abbrev μ-one-case : Measures 3 one-case-kinds.ps ℕ
-μ-one-case κs a = a .1 .1 .1 .1 .1 .1 .1 .0 * 8 + 3
+abbrev μ-one-case : Measures 2 one-case-kinds.ps ℕ
+μ-one-case κs a = a .1 .1 .1 .1 .1 .1 .0 * 8 + 3
 
-abbrev μ-parallel : Measures 3 parallel-kinds.ps ℕ
-μ-parallel κs a = a .1 .1 .1 .1 .1 .1 .1 .0 * 8
+abbrev μ-parallel : Measures 2 parallel-kinds.ps ℕ
+μ-parallel κs a = a .1 .1 .1 .1 .1 .1 .0 * 8
 
-abbrev μ-stmt : Measures 3 stmt-kinds.ps ℕ
-μ-stmt κs a = a .1 .1 .1 .1 .1 .1 .1 .1 .0 * 8 + 1
+abbrev μ-stmt : Measures 2 stmt-kinds.ps ℕ
+μ-stmt κs a = a .1 .1 .1 .1 .1 .1 .1 .0 * 8 + 1
 
-abbrev μ-switch : Measures 3 switch-kinds.ps ℕ
-μ-switch κs a = a .1 .1 .1 .1 .1 .1 .1 .0 * 8
+abbrev μ-switch : Measures 2 switch-kinds.ps ℕ
+μ-switch κs a = a .1 .1 .1 .1 .1 .1 .0 * 8
 
-abbrev μ-while-loop : Measures 3 while-loop-kinds.ps ℕ
-μ-while-loop κs a = a .1 .1 .1 .1 .1 .1 .1 .0 * 8
+abbrev μ-while-loop : Measures 2 while-loop-kinds.ps ℕ
+μ-while-loop κs a = a .1 .1 .1 .1 .1 .1 .0 * 8
 
-abbrev branch-at : ℕ → In 3 branch-kinds.ps
-branch-at t = and 3 branch-kinds.ps (is 3 branch-kinds.ps μ-branch t) branch.Pre
+abbrev branch-at : ℕ → In 2 branch-kinds.ps
+branch-at t = and 2 branch-kinds.ps (is 2 branch-kinds.ps μ-branch t) branch.Pre
 
-abbrev branch-below : ℕ → In 3 branch-kinds.ps
-branch-below t = and 3 branch-kinds.ps (falls 3 branch-kinds.ps _<_ μ-branch t) branch.Pre
+abbrev branch-below : ℕ → In 2 branch-kinds.ps
+branch-below t = and 2 branch-kinds.ps (falls 2 branch-kinds.ps _<_ μ-branch t) branch.Pre
 
-abbrev branches-at : ℕ → In 3 branches-kinds.ps
-branches-at t = and 3 branches-kinds.ps (is 3 branches-kinds.ps μ-branches t) branches.Pre
+abbrev branches-at : ℕ → In 2 branches-kinds.ps
+branches-at t = and 2 branches-kinds.ps (is 2 branches-kinds.ps μ-branches t) branches.Pre
 
-abbrev branches-below : ℕ → In 3 branches-kinds.ps
-branches-below t = and 3 branches-kinds.ps (falls 3 branches-kinds.ps _<_ μ-branches t) branches.Pre
+abbrev branches-below : ℕ → In 2 branches-kinds.ps
+branches-below t = and 2 branches-kinds.ps (falls 2 branches-kinds.ps _<_ μ-branches t) branches.Pre
 
-abbrev cases-at : ℕ → In 3 cases-kinds.ps
-cases-at t = and 3 cases-kinds.ps (is 3 cases-kinds.ps μ-cases t) cases.Pre
+abbrev cases-at : ℕ → In 2 cases-kinds.ps
+cases-at t = and 2 cases-kinds.ps (is 2 cases-kinds.ps μ-cases t) cases.Pre
 
-abbrev cases-below : ℕ → In 3 cases-kinds.ps
-cases-below t = and 3 cases-kinds.ps (falls 3 cases-kinds.ps _<_ μ-cases t) cases.Pre
+abbrev cases-below : ℕ → In 2 cases-kinds.ps
+cases-below t = and 2 cases-kinds.ps (falls 2 cases-kinds.ps _<_ μ-cases t) cases.Pre
 
-abbrev choice-at : ℕ → In 3 choice-kinds.ps
-choice-at t = and 3 choice-kinds.ps (is 3 choice-kinds.ps μ-choice t) choice.Pre
+abbrev choice-at : ℕ → In 2 choice-kinds.ps
+choice-at t = and 2 choice-kinds.ps (is 2 choice-kinds.ps μ-choice t) choice.Pre
 
-abbrev choice-below : ℕ → In 3 choice-kinds.ps
-choice-below t = and 3 choice-kinds.ps (falls 3 choice-kinds.ps _<_ μ-choice t) choice.Pre
+abbrev choice-below : ℕ → In 2 choice-kinds.ps
+choice-below t = and 2 choice-kinds.ps (falls 2 choice-kinds.ps _<_ μ-choice t) choice.Pre
 
-abbrev list-at : ℕ → In 3 list-kinds.ps
-list-at t = and 3 list-kinds.ps (is 3 list-kinds.ps μ-list t) list.Pre
+abbrev list-at : ℕ → In 2 list-kinds.ps
+list-at t = and 2 list-kinds.ps (is 2 list-kinds.ps μ-list t) list.Pre
 
-abbrev list-below : ℕ → In 3 list-kinds.ps
-list-below t = and 3 list-kinds.ps (falls 3 list-kinds.ps _<_ μ-list t) list.Pre
+abbrev list-below : ℕ → In 2 list-kinds.ps
+list-below t = and 2 list-kinds.ps (falls 2 list-kinds.ps _<_ μ-list t) list.Pre
 
-abbrev loop-always-at : ℕ → In 3 loop-always-kinds.ps
-loop-always-at t = and 3 loop-always-kinds.ps (is 3 loop-always-kinds.ps μ-loop-always t) loop-always.Pre
+abbrev loop-always-at : ℕ → In 2 loop-always-kinds.ps
+loop-always-at t = and 2 loop-always-kinds.ps (is 2 loop-always-kinds.ps μ-loop-always t) loop-always.Pre
 
-abbrev loop-always-below : ℕ → In 3 loop-always-kinds.ps
-loop-always-below t = and 3 loop-always-kinds.ps (falls 3 loop-always-kinds.ps _<_ μ-loop-always t) loop-always.Pre
+abbrev loop-always-below : ℕ → In 2 loop-always-kinds.ps
+loop-always-below t = and 2 loop-always-kinds.ps (falls 2 loop-always-kinds.ps _<_ μ-loop-always t) loop-always.Pre
 
-abbrev one-case-at : ℕ → In 3 one-case-kinds.ps
-one-case-at t = and 3 one-case-kinds.ps (is 3 one-case-kinds.ps μ-one-case t) one-case.Pre
+abbrev one-case-at : ℕ → In 2 one-case-kinds.ps
+one-case-at t = and 2 one-case-kinds.ps (is 2 one-case-kinds.ps μ-one-case t) one-case.Pre
 
-abbrev one-case-below : ℕ → In 3 one-case-kinds.ps
-one-case-below t = and 3 one-case-kinds.ps (falls 3 one-case-kinds.ps _<_ μ-one-case t) one-case.Pre
+abbrev one-case-below : ℕ → In 2 one-case-kinds.ps
+one-case-below t = and 2 one-case-kinds.ps (falls 2 one-case-kinds.ps _<_ μ-one-case t) one-case.Pre
 
-abbrev parallel-at : ℕ → In 3 parallel-kinds.ps
-parallel-at t = and 3 parallel-kinds.ps (is 3 parallel-kinds.ps μ-parallel t) parallel.Pre
+abbrev parallel-at : ℕ → In 2 parallel-kinds.ps
+parallel-at t = and 2 parallel-kinds.ps (is 2 parallel-kinds.ps μ-parallel t) parallel.Pre
 
-abbrev parallel-below : ℕ → In 3 parallel-kinds.ps
-parallel-below t = and 3 parallel-kinds.ps (falls 3 parallel-kinds.ps _<_ μ-parallel t) parallel.Pre
+abbrev parallel-below : ℕ → In 2 parallel-kinds.ps
+parallel-below t = and 2 parallel-kinds.ps (falls 2 parallel-kinds.ps _<_ μ-parallel t) parallel.Pre
 
-abbrev stmt-at : ℕ → In 3 stmt-kinds.ps
-stmt-at t = and 3 stmt-kinds.ps (is 3 stmt-kinds.ps μ-stmt t) stmt.Pre
+abbrev stmt-at : ℕ → In 2 stmt-kinds.ps
+stmt-at t = and 2 stmt-kinds.ps (is 2 stmt-kinds.ps μ-stmt t) stmt.Pre
 
-abbrev stmt-below : ℕ → In 3 stmt-kinds.ps
-stmt-below t = and 3 stmt-kinds.ps (falls 3 stmt-kinds.ps _<_ μ-stmt t) stmt.Pre
+abbrev stmt-below : ℕ → In 2 stmt-kinds.ps
+stmt-below t = and 2 stmt-kinds.ps (falls 2 stmt-kinds.ps _<_ μ-stmt t) stmt.Pre
 
-abbrev switch-at : ℕ → In 3 switch-kinds.ps
-switch-at t = and 3 switch-kinds.ps (is 3 switch-kinds.ps μ-switch t) switch.Pre
+abbrev switch-at : ℕ → In 2 switch-kinds.ps
+switch-at t = and 2 switch-kinds.ps (is 2 switch-kinds.ps μ-switch t) switch.Pre
 
-abbrev switch-below : ℕ → In 3 switch-kinds.ps
-switch-below t = and 3 switch-kinds.ps (falls 3 switch-kinds.ps _<_ μ-switch t) switch.Pre
+abbrev switch-below : ℕ → In 2 switch-kinds.ps
+switch-below t = and 2 switch-kinds.ps (falls 2 switch-kinds.ps _<_ μ-switch t) switch.Pre
 
-abbrev while-loop-at : ℕ → In 3 while-loop-kinds.ps
-while-loop-at t = and 3 while-loop-kinds.ps (is 3 while-loop-kinds.ps μ-while-loop t) while-loop.Pre
+abbrev while-loop-at : ℕ → In 2 while-loop-kinds.ps
+while-loop-at t = and 2 while-loop-kinds.ps (is 2 while-loop-kinds.ps μ-while-loop t) while-loop.Pre
 
-abbrev while-loop-below : ℕ → In 3 while-loop-kinds.ps
-while-loop-below t = and 3 while-loop-kinds.ps (falls 3 while-loop-kinds.ps _<_ μ-while-loop t) while-loop.Pre
+abbrev while-loop-below : ℕ → In 2 while-loop-kinds.ps
+while-loop-below t = and 2 while-loop-kinds.ps (falls 2 while-loop-kinds.ps _<_ μ-while-loop t) while-loop.Pre
 
 abbrev branch-calls : ℕ → branch-lts.Claims
 branch-calls t = (with-acts-reads.Asked, with-acts-reads.Learnt, list-below t, list.Post, branched-reads.Asked, branched-reads.Learnt)
@@ -167,14 +169,15 @@ branch-with-acts-requires t c κs = search needs
 
 branch-list-requires : (t : ℕ) → branch-lts.Need-list-requires (branch-calls t) (branch-at t) branch.Post
 branch-list-requires t c κs =
-    let k₁ = c .before .before .before .before .before in
+    let k₁ = c .before .before .before .before in
     (omega (arith, k₁ .pre .0), record { near = k₁ .pre .1 .near; listed = k₁ .pre .1 .listed; few = k₁ .pre .1 .few })
 
 branch-branched-requires : (t : ℕ) → branch-lts.Need-branched-requires (branch-calls t) (branch-at t) branch.Post
 branch-branched-requires t c κs = search needs
 
 branch-same-length : (t : ℕ) → branch-lts.Need-same-length (branch-calls t) (branch-at t) branch.Post
-branch-same-length t c = c .before .before .branched .ensures .long ∙ c .before .before .before .before .before .before .list .ensures .on .long
+unfolding beside
+branch-same-length t c = same-size (c .before .before .branched .ensures .kept ∙ c .before .before .before .before .before .before .list .ensures .on .kept)
 
 branch-returns : (t : ℕ) → branch-lts.Need-returns (branch-calls t) (branch-at t) branch.Post
 branch-returns t c =
@@ -187,19 +190,20 @@ abbrev branches-calls : ℕ → branches-lts.Claims
 branches-calls t = (made-reads.Asked, made-reads.Learnt, word-from-reads.Asked, word-from-reads.Learnt, branch-below t, branch.Post)
 
 abbrev branches-Inv-loop : branches-lts.InvT-loop
-branches-Inv-loop s d count t₀ lp levels at₀ t at = BranchesGoing (lookIn s d count) s levels lp at₀ t₀ at t
+branches-Inv-loop s count t₀ lp levels at₀ t at = BranchesGoing (lookIn s (beside t₀ .names) count) s levels lp at₀ t₀ at t
 
 abbrev branches-μ-loop : branches-lts.MeasureT-loop
-branches-μ-loop s d count t₀ lp levels at₀ t at = length s - at .word .place
+branches-μ-loop s count t₀ lp levels at₀ t at = length s - at .word .place
 
 branches-made-requires : (t : ℕ) → branches-lts.Need-made-requires (branches-calls t) (branches-at t) branches.Post branches-Inv-loop branches-μ-loop
 branches-made-requires t c κs = search needs
 
 branches-loop-holds : (t : ℕ) → branches-lts.Need-loop-holds (branches-calls t) (branches-at t) branches.Post branches-Inv-loop branches-μ-loop
-branches-loop-holds t c = branches-start (rw (c .made .ensures .0) (c .before .before .before .before .pre .1 .near))
+branches-loop-holds t c = branches-start (rw (c .made .ensures .0) (c .before .before .before .pre .1 .near))
 
 branches-same-length : (t : ℕ) → branches-lts.Need-same-length (branches-calls t) (branches-at t) branches.Post branches-Inv-loop branches-μ-loop
-branches-same-length t c = c .before .before .before .before .loop .inv .on .long
+unfolding beside
+branches-same-length t c = same-size (c .before .before .before .before .loop .inv .on .kept)
 
 branches-returns : (t : ℕ) → branches-lts.Need-returns (branches-calls t) (branches-at t) branches.Post branches-Inv-loop branches-μ-loop
 branches-returns t c =
@@ -210,14 +214,14 @@ branches-returns t c =
 branches-word-from-requires : (t : ℕ) → branches-lts.Need-word-from-requires (branches-calls t) (branches-at t) branches.Post branches-Inv-loop branches-μ-loop
 branches-word-from-requires t c κs =
     let k₁ = c .before .before .before .before in
-    let k₂ = k₁ .before .before .before .before .before in
+    let k₂ = k₁ .before .before .before .before in
     (k₂ .pre .1 .near .short, k₁ .loop .inv .on .near .inside)
 
 branches-branch-requires : (t : ℕ) → branches-lts.Need-branch-requires (branches-calls t) (branches-at t) branches.Post branches-Inv-loop branches-μ-loop
 branches-branch-requires t c κs =
     let k₁ = c .before in
-    let k₂ = k₁ .before .before .before .before .before .before .before .before .before .before in
-    (omega (arith, k₂ .pre .0), record { near = k₁ .word-from .ensures .near; listed = k₂ .pre .1 .listed; few = k₂ .pre .1 .few })
+    let k₂ = k₁ .before .before .before .before .before .before .before .before .before in
+    (omega (arith, k₂ .pre .0), record { near = k₁ .word-from .ensures .near; listed = rw (k₁ .before .before .before .before .before .loop .inv .on .kept) (k₂ .pre .1 .listed); few = k₂ .pre .1 .few })
 
 branches-loop-less : (t : ℕ) → branches-lts.Need-loop-less (branches-calls t) (branches-at t) branches.Post branches-Inv-loop branches-μ-loop
 branches-loop-less t c =
@@ -233,25 +237,26 @@ branches-loop-again t c =
     let k₂ = k₁ .before .before in
     let k₃ = k₂ .before in
     let k₄ = k₃ .before .before .before .before in
-    branches-on (k₃ .if1 .left) (k₂ .word-from .ensures) (k₁ .branch .ensures) (k₄ .loop .inv)
+    branches-on (k₃ .if1 .left) (k₂ .word-from .ensures) (rw (k₄ .loop .inv .on .kept) at (k₁ .branch .ensures)) (k₄ .loop .inv)
 
 abbrev cases-calls : ℕ → cases-lts.Claims
 cases-calls t = (made-reads.Asked, made-reads.Learnt, one-case-below t, one-case.Post)
 
 abbrev cases-Inv-loop : cases-lts.InvT-loop
-cases-Inv-loop s d count t₀ lp levels at₀ t at = CasesGoing (lookIn s d count) s levels lp true at₀ t₀ at t
+cases-Inv-loop s count t₀ lp levels at₀ t at = CasesGoing (lookIn s (beside t₀ .names) count) s levels lp true at₀ t₀ at t
 
 abbrev cases-μ-loop : cases-lts.MeasureT-loop
-cases-μ-loop s d count t₀ lp levels at₀ t at = length s - at .word .place
+cases-μ-loop s count t₀ lp levels at₀ t at = length s - at .word .place
 
 cases-made-requires : (t : ℕ) → cases-lts.Need-made-requires (cases-calls t) (cases-at t) cases.Post cases-Inv-loop cases-μ-loop
 cases-made-requires t c κs = search needs
 
 cases-loop-holds : (t : ℕ) → cases-lts.Need-loop-holds (cases-calls t) (cases-at t) cases.Post cases-Inv-loop cases-μ-loop
-cases-loop-holds t c = cases-start (rw (c .made .ensures .0) (c .before .before .before .before .pre .1 .near))
+cases-loop-holds t c = cases-start (rw (c .made .ensures .0) (c .before .before .before .pre .1 .near))
 
 cases-same-length : (t : ℕ) → cases-lts.Need-same-length (cases-calls t) (cases-at t) cases.Post cases-Inv-loop cases-μ-loop
-cases-same-length t c = c .before .before .before .before .loop .inv .on .long
+unfolding beside
+cases-same-length t c = same-size (c .before .before .before .before .loop .inv .on .kept)
 
 cases-returns : (t : ℕ) → cases-lts.Need-returns (cases-calls t) (cases-at t) cases.Post cases-Inv-loop cases-μ-loop
 cases-returns t c =
@@ -262,8 +267,8 @@ cases-returns t c =
 cases-one-case-requires : (t : ℕ) → cases-lts.Need-one-case-requires (cases-calls t) (cases-at t) cases.Post cases-Inv-loop cases-μ-loop
 cases-one-case-requires t c κs =
     let k₁ = c .before .before .before .before .before in
-    let k₂ = k₁ .before .before .before .before .before in
-    (omega (arith, k₂ .pre .0), record { near = k₁ .loop .inv .on .near; listed = k₂ .pre .1 .listed; few = k₂ .pre .1 .few })
+    let k₂ = k₁ .before .before .before .before in
+    (omega (arith, k₂ .pre .0), record { near = k₁ .loop .inv .on .near; listed = rw (k₁ .loop .inv .on .kept) (k₂ .pre .1 .listed); few = k₂ .pre .1 .few })
 
 cases-loop-less : (t : ℕ) → cases-lts.Need-loop-less (cases-calls t) (cases-at t) cases.Post cases-Inv-loop cases-μ-loop
 cases-loop-less t c =
@@ -277,7 +282,7 @@ cases-loop-again t c =
     let k₁ = c .before .before in
     let k₂ = k₁ .before .before in
     let k₃ = k₂ .before .before .before .before in
-    cases-on (k₂ .if1 .left) (k₁ .one-case .ensures) (k₃ .loop .inv)
+    cases-on (k₂ .if1 .left) (rw (k₃ .loop .inv .on .kept) at (k₁ .one-case .ensures)) (k₃ .loop .inv)
 
 abbrev choice-calls : ℕ → choice-lts.Claims
 choice-calls t = (begun-reads.Asked, begun-reads.Learnt, word-from-reads.Asked, word-from-reads.Learnt, test-reads.Asked, test-reads.Learnt, list-below t, list.Post, finish-reads.Asked, finish-reads.Learnt)
@@ -286,27 +291,27 @@ choice-begun-requires : (t : ℕ) → choice-lts.Need-begun-requires (choice-cal
 choice-begun-requires t c κs = search needs
 
 choice-word-from-requires : (t : ℕ) → choice-lts.Need-word-from-requires (choice-calls t) (choice-at t) choice.Post
-choice-word-from-requires t c κs = (c .before .before .before .before .pre .1 .1 .near .short, c .before .before .before .before .pre .1 .1 .near .inside)
+choice-word-from-requires t c κs = (c .before .before .before .pre .1 .1 .near .short, c .before .before .before .pre .1 .1 .near .inside)
 
 choice-sub-below : (t : ℕ) → choice-lts.Need-sub-below (choice-calls t) (choice-at t) choice.Post
-choice-sub-below t c = omega (arith, c .before .before .before .before .before .pre .1 .0)
+choice-sub-below t c = omega (arith, c .before .before .before .before .pre .1 .0)
 
 choice-test-requires : (t : ℕ) → choice-lts.Need-test-requires (choice-calls t) (choice-at t) choice.Post
 choice-test-requires t c κs =
     let k₁ = c .before in
-    let k₂ = k₁ .before .before .before .before .before in
+    let k₂ = k₁ .before .before .before .before in
     record { near = k₁ .word-from .ensures .near; listed = k₂ .pre .1 .1 .listed; few = omega (arith, k₂ .pre .1 .1 .few) }
 
 choice-list-requires : (t : ℕ) → choice-lts.Need-list-requires (choice-calls t) (choice-at t) choice.Post
 choice-list-requires t c κs =
     let k₁ = c .before .before .before .before .before in
-    let k₂ = k₁ .before .before .before .before .before .before .before in
-    (omega (arith, k₂ .pre .0, k₂ .pre .1 .0), record { near = k₁ .test .ensures .on .near; listed = k₂ .pre .1 .1 .listed; few = omega (arith, k₂ .pre .1 .1 .few) })
+    let k₂ = k₁ .before .before .before .before .before .before in
+    (omega (arith, k₂ .pre .0, k₂ .pre .1 .0), record { near = k₁ .test .ensures .on .near; listed = rw (k₁ .test .ensures .on .kept) (k₂ .pre .1 .1 .listed); few = omega (arith, k₂ .pre .1 .1 .few) })
 
 choice-word-from-requires-2 : (t : ℕ) → choice-lts.Need-word-from-requires-2 (choice-calls t) (choice-at t) choice.Post
 choice-word-from-requires-2 t c κs =
     let k₁ = c .before .before .before .before in
-    let k₂ = k₁ .before .before .before .before .before .before .before .before .before .before .before .before .before in
+    let k₂ = k₁ .before .before .before .before .before .before .before .before .before .before .before .before in
     (k₂ .pre .1 .1 .near .short, k₁ .list .ensures .on .near .inside)
 
 choice-cast-finish : (t : ℕ) → choice-lts.Need-cast-finish (choice-calls t) (choice-at t) choice.Post
@@ -316,11 +321,12 @@ choice-finish-requires : (t : ℕ) → choice-lts.Need-finish-requires (choice-c
 choice-finish-requires t c κs = search needs
 
 choice-same-length : (t : ℕ) → choice-lts.Need-same-length (choice-calls t) (choice-at t) choice.Post
+unfolding beside
 choice-same-length t c =
     let k₁ = c .before .before in
     let k₂ = k₁ .before .before .before .before .before .before .before .before .before .before in
     let k₃ = k₂ .before .before .before .before .before .before in
-    k₁ .finish .ensures .long ∙ k₂ .list .ensures .on .long ∙ k₃ .test .ensures .on .long
+    same-size (k₁ .finish .ensures .kept ∙ k₂ .list .ensures .on .kept ∙ k₃ .test .ensures .on .kept)
 
 choice-returns : (t : ℕ) → choice-lts.Need-returns (choice-calls t) (choice-at t) choice.Post
 choice-returns t c =
@@ -331,19 +337,19 @@ choice-returns t c =
     let k₅ = k₄ .before .before .before .before .before .before in
     let k₆ = k₅ .before .before in
     let k₇ = k₆ .before in
-    let k₈ = k₇ .before .before .before .before in
-    if-came (k₈ .pre .1 .1 .near) (k₇ .begun .ensures) (k₆ .word-from .ensures) (k₅ .test .ensures) (k₄ .list .ensures) (k₃ .word-from2 .ensures) (k₂ .if1 .taken) (k₁ .finish .ensures)
+    let k₈ = k₇ .before .before .before in
+    if-came (k₈ .pre .1 .1 .near) (k₇ .begun .ensures) (k₆ .word-from .ensures) (k₅ .test .ensures) (rw (k₅ .test .ensures .on .kept) at (k₄ .list .ensures)) (k₃ .word-from2 .ensures) (k₂ .if1 .taken) (k₁ .finish .ensures)
 
 choice-list-requires-2 : (t : ℕ) → choice-lts.Need-list-requires-2 (choice-calls t) (choice-at t) choice.Post
 choice-list-requires-2 t c κs =
     let k₁ = c .before .before .before in
-    let k₂ = k₁ .before .before .before .before .before .before .before .before .before .before .before .before .before .before .before .before .before .before in
-    (omega (arith, k₂ .pre .0, k₂ .pre .1 .0), record { near = k₁ .word-from2 .ensures .near; listed = k₂ .pre .1 .1 .listed; few = omega (arith, k₂ .pre .1 .1 .few) })
+    let k₂ = k₁ .before .before .before .before .before .before .before .before .before .before .before .before .before .before .before .before .before in
+    (omega (arith, k₂ .pre .0, k₂ .pre .1 .0), record { near = k₁ .word-from2 .ensures .near; listed = rw (k₁ .before .before .before .before .before .list .ensures .on .kept ∙ k₁ .before .before .before .before .before .before .before .before .before .before .before .test .ensures .on .kept) (k₂ .pre .1 .1 .listed); few = omega (arith, k₂ .pre .1 .1 .few) })
 
 choice-word-from-requires-3 : (t : ℕ) → choice-lts.Need-word-from-requires-3 (choice-calls t) (choice-at t) choice.Post
 choice-word-from-requires-3 t c κs =
     let k₁ = c .before .before .before .before in
-    let k₂ = k₁ .before .before .before .before .before .before .before .before .before .before .before .before .before .before .before .before .before .before .before .before .before .before in
+    let k₂ = k₁ .before .before .before .before .before .before .before .before .before .before .before .before .before .before .before .before .before .before .before .before .before in
     (k₂ .pre .1 .1 .near .short, k₁ .list2 .ensures .on .near .inside)
 
 choice-cast-finish-2 : (t : ℕ) → choice-lts.Need-cast-finish-2 (choice-calls t) (choice-at t) choice.Post
@@ -353,12 +359,13 @@ choice-finish-requires-2 : (t : ℕ) → choice-lts.Need-finish-requires-2 (choi
 choice-finish-requires-2 t c κs = search needs
 
 choice-same-length-2 : (t : ℕ) → choice-lts.Need-same-length-2 (choice-calls t) (choice-at t) choice.Post
+unfolding beside
 choice-same-length-2 t c =
     let k₁ = c .before .before in
     let k₂ = k₁ .before .before .before .before .before .before .before .before in
     let k₃ = k₂ .before .before .before .before .before .before .before .before .before in
     let k₄ = k₃ .before .before .before .before .before .before in
-    k₁ .finish2 .ensures .long ∙ k₂ .list2 .ensures .on .long ∙ k₃ .list .ensures .on .long ∙ k₄ .test .ensures .on .long
+    same-size (k₁ .finish2 .ensures .kept ∙ k₂ .list2 .ensures .on .kept ∙ k₃ .list .ensures .on .kept ∙ k₄ .test .ensures .on .kept)
 
 choice-returns-2 : (t : ℕ) → choice-lts.Need-returns-2 (choice-calls t) (choice-at t) choice.Post
 choice-returns-2 t c =
@@ -371,42 +378,43 @@ choice-returns-2 t c =
     let k₇ = k₆ .before .before .before .before .before .before in
     let k₈ = k₇ .before .before in
     let k₉ = k₈ .before in
-    let k₁₀ = k₉ .before .before .before .before in
-    else-came (k₁₀ .pre .1 .1 .near) (k₉ .begun .ensures) (k₈ .word-from .ensures) (k₇ .test .ensures) (k₆ .list .ensures) (k₅ .word-from2 .ensures) (k₄ .if1 .left) (k₃ .list2 .ensures) (k₂ .word-from3 .ensures) (k₁ .finish2 .ensures)
+    let k₁₀ = k₉ .before .before .before in
+    else-came (k₁₀ .pre .1 .1 .near) (k₉ .begun .ensures) (k₈ .word-from .ensures) (k₇ .test .ensures) (rw (k₇ .test .ensures .on .kept) at (k₆ .list .ensures)) (k₅ .word-from2 .ensures) (k₄ .if1 .left) (rw (k₆ .list .ensures .on .kept ∙ k₇ .test .ensures .on .kept) at (k₃ .list2 .ensures)) (k₂ .word-from3 .ensures) (k₁ .finish2 .ensures)
 
 abbrev list-calls : ℕ → list-lts.Claims
 list-calls t = (stmt-below t, stmt.Post, word-from-reads.Asked, word-from-reads.Learnt, statement-row-reads.Asked, statement-row-reads.Learnt, made-reads.Asked, made-reads.Learnt)
 
 abbrev list-Inv-loop : list-lts.InvT-loop
-list-Inv-loop s d count t₀ lp br levels at₀ t at = Going (lookIn s d count) s levels lp br at₀ t₀ at t
+list-Inv-loop s count t₀ lp br levels at₀ t at = Going (lookIn s (beside t₀ .names) count) s levels lp br at₀ t₀ at t
 
 abbrev list-μ-loop : list-lts.MeasureT-loop
-list-μ-loop s d count t₀ lp br levels at₀ t at = length s - at .word .place
+list-μ-loop s count t₀ lp br levels at₀ t at = length s - at .word .place
 
 list-stmt-requires : (t : ℕ) → list-lts.Need-stmt-requires (list-calls t) (list-at t) list.Post list-Inv-loop list-μ-loop
 list-stmt-requires t c κs =
-    let k₁ = c .before .before .before .before in
+    let k₁ = c .before .before .before in
     (omega (arith, k₁ .pre .0), record { near = k₁ .pre .1 .near; listed = k₁ .pre .1 .listed; few = k₁ .pre .1 .few })
 
 list-loop-holds : (t : ℕ) → list-lts.Need-loop-holds (list-calls t) (list-at t) list.Post list-Inv-loop list-μ-loop
-list-loop-holds t c = list-start (c .before .before .stmt .ensures)
+list-loop-holds t c = list-start (rw (← c .before .before .stmt .ensures .on .kept) at (c .before .before .stmt .ensures))
 
 list-same-length : (t : ℕ) → list-lts.Need-same-length (list-calls t) (list-at t) list.Post list-Inv-loop list-μ-loop
+unfolding beside
 list-same-length t c =
     let k₁ = c .before .before .before .before in
     let k₂ = k₁ .before .before .before in
-    k₁ .loop .inv .on .long ∙ k₂ .stmt .ensures .on .long
+    same-size (k₁ .loop .inv .on .kept ∙ k₂ .stmt .ensures .on .kept)
 
 list-returns : (t : ℕ) → list-lts.Need-returns (list-calls t) (list-at t) list.Post list-Inv-loop list-μ-loop
 list-returns t c =
     let k₁ = c .before .before .before .before in
     let k₂ = k₁ .before .before .before in
-    list-ends (k₂ .stmt .ensures) (k₁ .loop .inv) (c .if1 .taken)
+    list-ends (k₂ .stmt .ensures) (rw (k₂ .stmt .ensures .on .kept) at (k₁ .loop .inv)) (c .if1 .taken)
 
 list-word-from-requires : (t : ℕ) → list-lts.Need-word-from-requires (list-calls t) (list-at t) list.Post list-Inv-loop list-μ-loop
 list-word-from-requires t c κs =
     let k₁ = c .before .before .before .before in
-    let k₂ = k₁ .before .before .before .before .before .before .before .before in
+    let k₂ = k₁ .before .before .before .before .before .before .before in
     (k₂ .pre .1 .near .short, k₁ .loop .inv .on .near .inside)
 
 list-statement-row-requires : (t : ℕ) → list-lts.Need-statement-row-requires (list-calls t) (list-at t) list.Post list-Inv-loop list-μ-loop
@@ -416,10 +424,11 @@ list-made-requires : (t : ℕ) → list-lts.Need-made-requires (list-calls t) (l
 list-made-requires t c κs = search needs
 
 list-same-length-2 : (t : ℕ) → list-lts.Need-same-length-2 (list-calls t) (list-at t) list.Post list-Inv-loop list-μ-loop
+unfolding beside
 list-same-length-2 t c =
     let k₁ = c .before .before .before .before .before .before .before .before in
     let k₂ = k₁ .before .before .before in
-    k₁ .loop .inv .on .long ∙ k₂ .stmt .ensures .on .long
+    same-size (k₁ .loop .inv .on .kept ∙ k₂ .stmt .ensures .on .kept)
 
 list-returns-2 : (t : ℕ) → list-lts.Need-returns-2 (list-calls t) (list-at t) list.Post list-Inv-loop list-μ-loop
 list-returns-2 t c =
@@ -429,13 +438,13 @@ list-returns-2 t c =
     let k₄ = k₃ .before in
     let k₅ = k₄ .before .before .before .before in
     let k₆ = k₅ .before .before .before in
-    list-spare (k₆ .stmt .ensures) (k₅ .loop .inv) (k₄ .if1 .left) (k₃ .word-from .ensures) (sym (k₂ .statement-row .ensures) ∙ k₁ .if2 .taken) (c .made .ensures .0) (c .made .ensures .1)
+    list-spare (k₆ .stmt .ensures) (rw (k₆ .stmt .ensures .on .kept) at (k₅ .loop .inv)) (k₄ .if1 .left) (k₃ .word-from .ensures) (sym (k₂ .statement-row .ensures) ∙ k₁ .if2 .taken) (c .made .ensures .0) (c .made .ensures .1)
 
 list-stmt-requires-2 : (t : ℕ) → list-lts.Need-stmt-requires-2 (list-calls t) (list-at t) list.Post list-Inv-loop list-μ-loop
 list-stmt-requires-2 t c κs =
     let k₁ = c .before .before .before in
-    let k₂ = k₁ .before .before .before .before .before .before .before .before .before .before .before .before .before in
-    (omega (arith, k₂ .pre .0), record { near = k₁ .word-from .ensures .near; listed = k₂ .pre .1 .listed; few = k₂ .pre .1 .few })
+    let k₂ = k₁ .before .before .before .before .before .before .before .before .before .before .before .before in
+    (omega (arith, k₂ .pre .0), record { near = k₁ .word-from .ensures .near; listed = rw (k₁ .before .before .before .before .before .loop .inv .on .kept ∙ k₁ .before .before .before .before .before .before .before .before .stmt .ensures .on .kept) (k₂ .pre .1 .listed); few = k₂ .pre .1 .few })
 
 list-loop-less : (t : ℕ) → list-lts.Need-loop-less (list-calls t) (list-at t) list.Post list-Inv-loop list-μ-loop
 list-loop-less t c =
@@ -453,7 +462,7 @@ list-loop-again t c =
     let k₄ = k₃ .before in
     let k₅ = k₄ .before in
     let k₆ = k₅ .before .before .before .before in
-    list-on (k₅ .if1 .left) (k₄ .word-from .ensures) (λ e. k₂ .if2 .left (k₃ .statement-row .ensures ∙ e)) (k₁ .stmt2 .ensures) (k₆ .loop .inv)
+    list-on (k₅ .if1 .left) (k₄ .word-from .ensures) (λ e. k₂ .if2 .left (k₃ .statement-row .ensures ∙ e)) (rw (k₆ .loop .inv .on .kept) at (k₁ .stmt2 .ensures)) (k₆ .loop .inv)
 
 abbrev loop-always-calls : ℕ → loop-always-lts.Claims
 loop-always-calls t = (begun-reads.Asked, begun-reads.Learnt, word-from-reads.Asked, word-from-reads.Learnt, list-below t, list.Post, finish-reads.Asked, finish-reads.Learnt)
@@ -462,31 +471,32 @@ loop-always-begun-requires : (t : ℕ) → loop-always-lts.Need-begun-requires (
 loop-always-begun-requires t c κs = search needs
 
 loop-always-word-from-requires : (t : ℕ) → loop-always-lts.Need-word-from-requires (loop-always-calls t) (loop-always-at t) loop-always.Post
-loop-always-word-from-requires t c κs = (c .before .before .before .before .pre .1 .1 .near .short, c .before .before .before .before .pre .1 .1 .near .inside)
+loop-always-word-from-requires t c κs = (c .before .before .before .pre .1 .1 .near .short, c .before .before .before .pre .1 .1 .near .inside)
 
 loop-always-sub-list : (t : ℕ) → loop-always-lts.Need-sub-list (loop-always-calls t) (loop-always-at t) loop-always.Post
-loop-always-sub-list t c = omega (arith, c .before .before .before .before .before .before .pre .1 .0)
+loop-always-sub-list t c = omega (arith, c .before .before .before .before .before .pre .1 .0)
 
 loop-always-list-requires : (t : ℕ) → loop-always-lts.Need-list-requires (loop-always-calls t) (loop-always-at t) loop-always.Post
 loop-always-list-requires t c κs =
     let k₁ = c .before in
-    let k₂ = k₁ .before .before .before .before .before in
+    let k₂ = k₁ .before .before .before .before in
     (omega (arith, k₂ .pre .0, k₂ .pre .1 .0), record { near = k₁ .word-from .ensures .near; listed = k₂ .pre .1 .1 .listed; few = omega (arith, k₂ .pre .1 .1 .few) })
 
 loop-always-word-from-requires-2 : (t : ℕ) → loop-always-lts.Need-word-from-requires-2 (loop-always-calls t) (loop-always-at t) loop-always.Post
 loop-always-word-from-requires-2 t c κs =
     let k₁ = c .before .before .before .before in
-    let k₂ = k₁ .before .before .before .before .before .before .before in
+    let k₂ = k₁ .before .before .before .before .before .before in
     (k₂ .pre .1 .1 .near .short, k₁ .list .ensures .on .near .inside)
 
 loop-always-finish-requires : (t : ℕ) → loop-always-lts.Need-finish-requires (loop-always-calls t) (loop-always-at t) loop-always.Post
 loop-always-finish-requires t c κs = search needs
 
 loop-always-same-length : (t : ℕ) → loop-always-lts.Need-same-length (loop-always-calls t) (loop-always-at t) loop-always.Post
+unfolding beside
 loop-always-same-length t c =
     let k₁ = c .before .before in
     let k₂ = k₁ .before .before .before .before .before .before .before in
-    k₁ .finish .ensures .long ∙ k₂ .list .ensures .on .long
+    same-size (k₁ .finish .ensures .kept ∙ k₂ .list .ensures .on .kept)
 
 loop-always-returns : (t : ℕ) → loop-always-lts.Need-returns (loop-always-calls t) (loop-always-at t) loop-always.Post
 loop-always-returns t c =
@@ -495,7 +505,7 @@ loop-always-returns t c =
     let k₃ = k₂ .before .before .before .before .before in
     let k₄ = k₃ .before .before in
     let k₅ = k₄ .before in
-    let k₆ = k₅ .before .before .before .before in
+    let k₆ = k₅ .before .before .before in
     λ l. loop-came (k₆ .pre .1 .1 .near) (k₅ .begun .ensures) (k₄ .word-from .ensures) (k₃ .list .ensures) (k₂ .word-from2 .ensures) (k₁ .finish .ensures)
 
 abbrev one-case-calls : ℕ → one-case-lts.Claims
@@ -505,19 +515,19 @@ one-case-cased-requires : (t : ℕ) → one-case-lts.Need-cased-requires (one-ca
 one-case-cased-requires t c κs = search needs
 
 one-case-word-from-requires : (t : ℕ) → one-case-lts.Need-word-from-requires (one-case-calls t) (one-case-at t) one-case.Post
-one-case-word-from-requires t c κs = (c .before .before .before .before .pre .1 .near .short, c .before .before .before .before .pre .1 .near .inside)
+one-case-word-from-requires t c κs = (c .before .before .before .pre .1 .near .short, c .before .before .before .pre .1 .near .inside)
 
 one-case-test-requires : (t : ℕ) → one-case-lts.Need-test-requires (one-case-calls t) (one-case-at t) one-case.Post
 one-case-test-requires t c κs =
     let k₁ = c .before in
-    let k₂ = k₁ .before .before .before .before .before in
+    let k₂ = k₁ .before .before .before .before in
     record { near = k₁ .word-from .ensures .near; listed = k₂ .pre .1 .listed; few = k₂ .pre .1 .few }
 
 one-case-list-requires : (t : ℕ) → one-case-lts.Need-list-requires (one-case-calls t) (one-case-at t) one-case.Post
 one-case-list-requires t c κs =
     let k₁ = c .before .before .before .before .before in
-    let k₂ = k₁ .before .before .before .before .before .before .before in
-    (omega (arith, k₂ .pre .0), record { near = k₁ .test .ensures .on .near; listed = k₂ .pre .1 .listed; few = k₂ .pre .1 .few })
+    let k₂ = k₁ .before .before .before .before .before .before in
+    (omega (arith, k₂ .pre .0), record { near = k₁ .test .ensures .on .near; listed = rw (k₁ .test .ensures .on .kept) (k₂ .pre .1 .listed); few = k₂ .pre .1 .few })
 
 one-case-cast-finish : (t : ℕ) → one-case-lts.Need-cast-finish (one-case-calls t) (one-case-at t) one-case.Post
 one-case-cast-finish t c = search needs
@@ -526,11 +536,12 @@ one-case-finish-requires : (t : ℕ) → one-case-lts.Need-finish-requires (one-
 one-case-finish-requires t c κs = search needs
 
 one-case-same-length : (t : ℕ) → one-case-lts.Need-same-length (one-case-calls t) (one-case-at t) one-case.Post
+unfolding beside
 one-case-same-length t c =
     let k₁ = c .before .before in
     let k₂ = k₁ .before .before .before .before .before .before .before in
     let k₃ = k₂ .before .before .before .before .before .before in
-    k₁ .finish .ensures .long ∙ k₂ .list .ensures .on .long ∙ k₃ .test .ensures .on .long
+    same-size (k₁ .finish .ensures .kept ∙ k₂ .list .ensures .on .kept ∙ k₃ .test .ensures .on .kept)
 
 one-case-returns : (t : ℕ) → one-case-lts.Need-returns (one-case-calls t) (one-case-at t) one-case.Post
 one-case-returns t c =
@@ -539,8 +550,8 @@ one-case-returns t c =
     let k₃ = k₂ .before .before .before .before .before .before in
     let k₄ = k₃ .before .before in
     let k₅ = k₄ .before in
-    let k₆ = k₅ .before .before .before .before in
-    case-came (k₆ .pre .1 .near) (k₅ .cased .ensures) (k₄ .word-from .ensures) (k₃ .test .ensures) (k₂ .list .ensures) (k₁ .finish .ensures)
+    let k₆ = k₅ .before .before .before in
+    case-came (k₆ .pre .1 .near) (k₅ .cased .ensures) (k₄ .word-from .ensures) (k₃ .test .ensures) (rw (k₃ .test .ensures .on .kept) at (k₂ .list .ensures)) (k₁ .finish .ensures)
 
 abbrev parallel-calls : ℕ → parallel-lts.Claims
 parallel-calls t = (begun-reads.Asked, begun-reads.Learnt, word-from-reads.Asked, word-from-reads.Learnt, with-acts-reads.Asked, with-acts-reads.Learnt, branch-below t, branch.Post, branches-below t, branches.Post, together-reads.Asked, together-reads.Learnt, finish-reads.Asked, finish-reads.Learnt)
@@ -549,10 +560,10 @@ parallel-begun-requires : (t : ℕ) → parallel-lts.Need-begun-requires (parall
 parallel-begun-requires t c κs = search needs
 
 parallel-word-from-requires : (t : ℕ) → parallel-lts.Need-word-from-requires (parallel-calls t) (parallel-at t) parallel.Post
-parallel-word-from-requires t c κs = (c .before .before .before .before .pre .1 .1 .near .short, c .before .before .before .before .pre .1 .1 .near .inside)
+parallel-word-from-requires t c κs = (c .before .before .before .pre .1 .1 .near .short, c .before .before .before .pre .1 .1 .near .inside)
 
 parallel-sub-below : (t : ℕ) → parallel-lts.Need-sub-below (parallel-calls t) (parallel-at t) parallel.Post
-parallel-sub-below t c = omega (arith, c .before .before .before .before .before .pre .1 .0)
+parallel-sub-below t c = omega (arith, c .before .before .before .before .pre .1 .0)
 
 parallel-with-acts-requires : (t : ℕ) → parallel-lts.Need-with-acts-requires (parallel-calls t) (parallel-at t) parallel.Post
 parallel-with-acts-requires t c κs = search needs
@@ -560,31 +571,31 @@ parallel-with-acts-requires t c κs = search needs
 parallel-branch-requires : (t : ℕ) → parallel-lts.Need-branch-requires (parallel-calls t) (parallel-at t) parallel.Post
 parallel-branch-requires t c κs =
     let k₁ = c .before .before in
-    let k₂ = k₁ .before .before .before .before .before in
+    let k₂ = k₁ .before .before .before .before in
     (omega (arith, k₂ .pre .0, k₂ .pre .1 .0), record { near = k₁ .word-from .ensures .near; listed = k₂ .pre .1 .1 .listed; few = omega (arith, k₂ .pre .1 .1 .few) })
 
 parallel-word-from-requires-2 : (t : ℕ) → parallel-lts.Need-word-from-requires-2 (parallel-calls t) (parallel-at t) parallel.Post
 parallel-word-from-requires-2 t c κs =
     let k₁ = c .before .before .before .before in
-    let k₂ = k₁ .before .before .before .before .before .before .before .before in
+    let k₂ = k₁ .before .before .before .before .before .before .before in
     (k₂ .pre .1 .1 .near .short, k₁ .branch .ensures .on .near .inside)
 
 parallel-branch-requires-2 : (t : ℕ) → parallel-lts.Need-branch-requires-2 (parallel-calls t) (parallel-at t) parallel.Post
 parallel-branch-requires-2 t c κs =
     let k₁ = c .before in
-    let k₂ = k₁ .before .before .before .before .before .before .before .before .before .before .before .before .before in
-    (omega (arith, k₂ .pre .0, k₂ .pre .1 .0), record { near = k₁ .word-from2 .ensures .near; listed = k₂ .pre .1 .1 .listed; few = omega (arith, k₂ .pre .1 .1 .few) })
+    let k₂ = k₁ .before .before .before .before .before .before .before .before .before .before .before .before in
+    (omega (arith, k₂ .pre .0, k₂ .pre .1 .0), record { near = k₁ .word-from2 .ensures .near; listed = rw (k₁ .before .before .before .before .before .branch .ensures .on .kept) (k₂ .pre .1 .1 .listed); few = omega (arith, k₂ .pre .1 .1 .few) })
 
 parallel-branches-requires : (t : ℕ) → parallel-lts.Need-branches-requires (parallel-calls t) (parallel-at t) parallel.Post
 parallel-branches-requires t c κs =
     let k₁ = c .before .before .before .before .before in
-    let k₂ = k₁ .before .before .before .before .before .before .before .before .before .before .before .before .before .before .before in
-    (omega (arith, k₂ .pre .0, k₂ .pre .1 .0), record { near = k₁ .branch2 .ensures .on .near; listed = k₂ .pre .1 .1 .listed; few = omega (arith, k₂ .pre .1 .1 .few) })
+    let k₂ = k₁ .before .before .before .before .before .before .before .before .before .before .before .before .before .before in
+    (omega (arith, k₂ .pre .0, k₂ .pre .1 .0), record { near = k₁ .branch2 .ensures .on .near; listed = rw (k₁ .branch2 .ensures .on .kept ∙ k₁ .before .before .before .before .before .before .before .branch .ensures .on .kept) (k₂ .pre .1 .1 .listed); few = omega (arith, k₂ .pre .1 .1 .few) })
 
 parallel-word-from-requires-3 : (t : ℕ) → parallel-lts.Need-word-from-requires-3 (parallel-calls t) (parallel-at t) parallel.Post
 parallel-word-from-requires-3 t c κs =
     let k₁ = c .before .before .before .before in
-    let k₂ = k₁ .before .before .before .before .before .before .before .before .before .before .before .before .before .before .before .before .before .before .before .before .before in
+    let k₂ = k₁ .before .before .before .before .before .before .before .before .before .before .before .before .before .before .before .before .before .before .before .before in
     (k₂ .pre .1 .1 .near .short, k₁ .branches .ensures .on .near .inside)
 
 parallel-together-requires : (t : ℕ) → parallel-lts.Need-together-requires (parallel-calls t) (parallel-at t) parallel.Post
@@ -594,12 +605,13 @@ parallel-finish-requires : (t : ℕ) → parallel-lts.Need-finish-requires (para
 parallel-finish-requires t c κs = search needs
 
 parallel-same-length : (t : ℕ) → parallel-lts.Need-same-length (parallel-calls t) (parallel-at t) parallel.Post
+unfolding beside
 parallel-same-length t c =
     let k₁ = c .before .before in
     let k₂ = k₁ .before .before .before .before .before .before .before .before in
     let k₃ = k₂ .before .before .before .before .before .before in
     let k₄ = k₃ .before .before .before .before .before .before .before in
-    k₁ .finish .ensures .long ∙ k₂ .branches .ensures .on .long ∙ k₃ .branch2 .ensures .on .long ∙ k₄ .branch .ensures .on .long
+    same-size (k₁ .finish .ensures .kept ∙ k₂ .branches .ensures .on .kept ∙ k₃ .branch2 .ensures .on .kept ∙ k₄ .branch .ensures .on .kept)
 
 parallel-returns : (t : ℕ) → parallel-lts.Need-returns (parallel-calls t) (parallel-at t) parallel.Post
 parallel-returns t c =
@@ -613,8 +625,8 @@ parallel-returns t c =
     let k₈ = k₇ .before .before in
     let k₉ = k₈ .before in
     let k₁₀ = k₉ .before in
-    let k₁₁ = k₁₀ .before .before .before .before in
-    λ b. parallel-came (k₁₁ .pre .1 .1 .near) (k₁₀ .begun .ensures) (k₉ .word-from .ensures) (k₈ .with-acts .ensures) (k₇ .branch .ensures) (k₆ .word-from2 .ensures) (k₅ .branch2 .ensures) (k₄ .branches .ensures) (k₃ .word-from3 .ensures) (k₂ .together .ensures) (k₁ .finish .ensures)
+    let k₁₁ = k₁₀ .before .before .before in
+    λ b. parallel-came (k₁₁ .pre .1 .1 .near) (k₁₀ .begun .ensures) (k₉ .word-from .ensures) (k₈ .with-acts .ensures) (k₇ .branch .ensures) (k₆ .word-from2 .ensures) (rw (k₇ .branch .ensures .on .kept) at (k₅ .branch2 .ensures)) (rw (k₅ .branch2 .ensures .on .kept ∙ k₇ .branch .ensures .on .kept) at (k₄ .branches .ensures)) (k₃ .word-from3 .ensures) (k₂ .together .ensures) (k₁ .finish .ensures)
 
 abbrev stmt-calls : ℕ → stmt-lts.Claims
 stmt-calls t = (statement-row-reads.Asked, statement-row-reads.Learnt, is-plain-reads.Asked, is-plain-reads.Learnt, plain-reads.Asked, plain-reads.Learnt, made-reads.Asked, made-reads.Learnt, while-loop-below t, while-loop.Post, loop-always-below t, loop-always.Post, switch-below t, switch.Post, parallel-below t, parallel.Post, choice-below t, choice.Post)
@@ -629,11 +641,12 @@ stmt-plain-requires : (t : ℕ) → stmt-lts.Need-plain-requires (stmt-calls t) 
 stmt-plain-requires t c κs =
     let k₁ = c .before in
     let k₂ = k₁ .before in
-    let k₃ = k₂ .before .before .before .before .before in
+    let k₃ = k₂ .before .before .before .before in
     (sym (k₂ .is-plain .ensures) ∙ k₁ .if1 .taken, k₃ .pre .1)
 
 stmt-same-length : (t : ℕ) → stmt-lts.Need-same-length (stmt-calls t) (stmt-at t) stmt.Post
-stmt-same-length t c = c .before .before .plain .ensures .on .long
+unfolding beside
+stmt-same-length t c = same-size (c .before .before .plain .ensures .on .kept)
 
 stmt-returns : (t : ℕ) → stmt-lts.Need-returns (stmt-calls t) (stmt-at t) stmt.Post
 stmt-returns t c = one-row (c .before .before .before .before .before .before .statement-row .ensures) refl (c .before .before .plain .ensures)
@@ -647,17 +660,18 @@ stmt-returns-2 t c =
     let k₂ = k₁ .before in
     let k₃ = k₂ .before in
     let k₄ = k₃ .before in
-    let k₅ = k₄ .before .before .before .before in
+    let k₅ = k₄ .before .before .before in
     one-none (k₄ .statement-row .ensures) (k₅ .pre .1 .near) (sym (k₃ .is-plain .ensures) ∙ k₂ .if1 .left) (k₁ .if2 .taken) (c .made .ensures .0)
 
 stmt-while-loop-requires : (t : ℕ) → stmt-lts.Need-while-loop-requires (stmt-calls t) (stmt-at t) stmt.Post
 stmt-while-loop-requires t c κs =
     let k₁ = c .before .before in
-    let k₂ = k₁ .before .before .before .before .before .before .before in
+    let k₂ = k₁ .before .before .before .before .before .before in
     (omega (arith, k₂ .pre .0), (omega (arith, k₁ .if2 .left), k₂ .pre .1))
 
 stmt-same-length-2 : (t : ℕ) → stmt-lts.Need-same-length-2 (stmt-calls t) (stmt-at t) stmt.Post
-stmt-same-length-2 t c = c .before .before .while-loop .ensures true .on .long
+unfolding beside
+stmt-same-length-2 t c = same-size (c .before .before .while-loop .ensures true .on .kept)
 
 stmt-returns-3 : (t : ℕ) → stmt-lts.Need-returns-3 (stmt-calls t) (stmt-at t) stmt.Post
 stmt-returns-3 t c =
@@ -669,11 +683,12 @@ stmt-returns-3 t c =
 stmt-loop-always-requires : (t : ℕ) → stmt-lts.Need-loop-always-requires (stmt-calls t) (stmt-at t) stmt.Post
 stmt-loop-always-requires t c κs =
     let k₁ = c .before .before .before in
-    let k₂ = k₁ .before .before .before .before .before .before .before in
+    let k₂ = k₁ .before .before .before .before .before .before in
     (omega (arith, k₂ .pre .0), (omega (arith, k₁ .if2 .left), k₂ .pre .1))
 
 stmt-same-length-3 : (t : ℕ) → stmt-lts.Need-same-length-3 (stmt-calls t) (stmt-at t) stmt.Post
-stmt-same-length-3 t c = c .before .before .loop-always .ensures true .on .long
+unfolding beside
+stmt-same-length-3 t c = same-size (c .before .before .loop-always .ensures true .on .kept)
 
 stmt-returns-4 : (t : ℕ) → stmt-lts.Need-returns-4 (stmt-calls t) (stmt-at t) stmt.Post
 stmt-returns-4 t c =
@@ -685,11 +700,12 @@ stmt-returns-4 t c =
 stmt-switch-requires : (t : ℕ) → stmt-lts.Need-switch-requires (stmt-calls t) (stmt-at t) stmt.Post
 stmt-switch-requires t c κs =
     let k₁ = c .before .before .before .before in
-    let k₂ = k₁ .before .before .before .before .before .before .before in
+    let k₂ = k₁ .before .before .before .before .before .before in
     (omega (arith, k₂ .pre .0), (omega (arith, k₁ .if2 .left), k₂ .pre .1))
 
 stmt-same-length-4 : (t : ℕ) → stmt-lts.Need-same-length-4 (stmt-calls t) (stmt-at t) stmt.Post
-stmt-same-length-4 t c = c .before .before .switch .ensures true .on .long
+unfolding beside
+stmt-same-length-4 t c = same-size (c .before .before .switch .ensures true .on .kept)
 
 stmt-returns-5 : (t : ℕ) → stmt-lts.Need-returns-5 (stmt-calls t) (stmt-at t) stmt.Post
 stmt-returns-5 t c =
@@ -701,11 +717,12 @@ stmt-returns-5 t c =
 stmt-parallel-requires : (t : ℕ) → stmt-lts.Need-parallel-requires (stmt-calls t) (stmt-at t) stmt.Post
 stmt-parallel-requires t c κs =
     let k₁ = c .before .before .before .before .before in
-    let k₂ = k₁ .before .before .before .before .before .before .before in
+    let k₂ = k₁ .before .before .before .before .before .before in
     (omega (arith, k₂ .pre .0), (omega (arith, k₁ .if2 .left), k₂ .pre .1))
 
 stmt-same-length-5 : (t : ℕ) → stmt-lts.Need-same-length-5 (stmt-calls t) (stmt-at t) stmt.Post
-stmt-same-length-5 t c = c .before .before .parallel .ensures true .on .long
+unfolding beside
+stmt-same-length-5 t c = same-size (c .before .before .parallel .ensures true .on .kept)
 
 stmt-returns-6 : (t : ℕ) → stmt-lts.Need-returns-6 (stmt-calls t) (stmt-at t) stmt.Post
 stmt-returns-6 t c =
@@ -717,11 +734,12 @@ stmt-returns-6 t c =
 stmt-choice-requires : (t : ℕ) → stmt-lts.Need-choice-requires (stmt-calls t) (stmt-at t) stmt.Post
 stmt-choice-requires t c κs =
     let k₁ = c .before .before .before .before .before in
-    let k₂ = k₁ .before .before .before .before .before .before .before in
+    let k₂ = k₁ .before .before .before .before .before .before in
     (omega (arith, k₂ .pre .0), (omega (arith, k₁ .if2 .left), k₂ .pre .1))
 
 stmt-same-length-6 : (t : ℕ) → stmt-lts.Need-same-length-6 (stmt-calls t) (stmt-at t) stmt.Post
-stmt-same-length-6 t c = c .before .before .choice .ensures .on .long
+unfolding beside
+stmt-same-length-6 t c = same-size (c .before .before .choice .ensures .on .kept)
 
 stmt-returns-7 : (t : ℕ) → stmt-lts.Need-returns-7 (stmt-calls t) (stmt-at t) stmt.Post
 stmt-returns-7 t c =
@@ -742,54 +760,55 @@ switch-begun-requires : (t : ℕ) → switch-lts.Need-begun-requires (switch-cal
 switch-begun-requires t c κs = search needs
 
 switch-word-from-requires : (t : ℕ) → switch-lts.Need-word-from-requires (switch-calls t) (switch-at t) switch.Post
-switch-word-from-requires t c κs = (c .before .before .before .before .pre .1 .1 .near .short, c .before .before .before .before .pre .1 .1 .near .inside)
+switch-word-from-requires t c κs = (c .before .before .before .pre .1 .1 .near .short, c .before .before .before .pre .1 .1 .near .inside)
 
 switch-sub-below : (t : ℕ) → switch-lts.Need-sub-below (switch-calls t) (switch-at t) switch.Post
-switch-sub-below t c = omega (arith, c .before .before .before .before .before .pre .1 .0)
+switch-sub-below t c = omega (arith, c .before .before .before .before .pre .1 .0)
 
 switch-one-case-requires : (t : ℕ) → switch-lts.Need-one-case-requires (switch-calls t) (switch-at t) switch.Post
 switch-one-case-requires t c κs =
     let k₁ = c .before in
-    let k₂ = k₁ .before .before .before .before .before in
+    let k₂ = k₁ .before .before .before .before in
     (omega (arith, k₂ .pre .0, k₂ .pre .1 .0), record { near = k₁ .word-from .ensures .near; listed = k₂ .pre .1 .1 .listed; few = omega (arith, k₂ .pre .1 .1 .few) })
 
 switch-cases-requires : (t : ℕ) → switch-lts.Need-cases-requires (switch-calls t) (switch-at t) switch.Post
 switch-cases-requires t c κs =
     let k₁ = c .before .before .before .before .before in
-    let k₂ = k₁ .before .before .before .before .before .before .before in
-    (omega (arith, k₂ .pre .0, k₂ .pre .1 .0), record { near = k₁ .one-case .ensures .on .near; listed = k₂ .pre .1 .1 .listed; few = omega (arith, k₂ .pre .1 .1 .few) })
+    let k₂ = k₁ .before .before .before .before .before .before in
+    (omega (arith, k₂ .pre .0, k₂ .pre .1 .0), record { near = k₁ .one-case .ensures .on .near; listed = rw (k₁ .one-case .ensures .on .kept) (k₂ .pre .1 .1 .listed); few = omega (arith, k₂ .pre .1 .1 .few) })
 
 switch-word-from-requires-2 : (t : ℕ) → switch-lts.Need-word-from-requires-2 (switch-calls t) (switch-at t) switch.Post
 switch-word-from-requires-2 t c κs =
     let k₁ = c .before .before .before .before in
-    let k₂ = k₁ .before .before .before .before .before .before .before .before .before .before .before .before .before in
+    let k₂ = k₁ .before .before .before .before .before .before .before .before .before .before .before .before in
     (k₂ .pre .1 .1 .near .short, k₁ .cases .ensures .on .near .inside)
 
 switch-word-from-requires-3 : (t : ℕ) → switch-lts.Need-word-from-requires-3 (switch-calls t) (switch-at t) switch.Post
-switch-word-from-requires-3 t c κs = (c .before .before .before .before .before .before .before .before .before .before .before .before .before .before .before .before .before .before .pre .1 .1 .near .short, c .word-from2 .ensures .near .inside)
+switch-word-from-requires-3 t c κs = (c .before .before .before .before .before .before .before .before .before .before .before .before .before .before .before .before .before .pre .1 .1 .near .short, c .word-from2 .ensures .near .inside)
 
 switch-list-requires : (t : ℕ) → switch-lts.Need-list-requires (switch-calls t) (switch-at t) switch.Post
 switch-list-requires t c κs =
     let k₁ = c .before in
-    let k₂ = k₁ .before .before .before .before .before .before .before .before .before .before .before .before .before .before .before .before .before .before .before in
-    (omega (arith, k₂ .pre .0, k₂ .pre .1 .0), record { near = k₁ .word-from3 .ensures .near; listed = k₂ .pre .1 .1 .listed; few = omega (arith, k₂ .pre .1 .1 .few) })
+    let k₂ = k₁ .before .before .before .before .before .before .before .before .before .before .before .before .before .before .before .before .before .before in
+    (omega (arith, k₂ .pre .0, k₂ .pre .1 .0), record { near = k₁ .word-from3 .ensures .near; listed = rw (k₁ .before .before .before .before .before .before .cases .ensures .on .kept ∙ k₁ .before .before .before .before .before .before .before .before .before .before .before .before .one-case .ensures .on .kept) (k₂ .pre .1 .1 .listed); few = omega (arith, k₂ .pre .1 .1 .few) })
 
 switch-word-from-requires-4 : (t : ℕ) → switch-lts.Need-word-from-requires-4 (switch-calls t) (switch-at t) switch.Post
 switch-word-from-requires-4 t c κs =
     let k₁ = c .before .before .before .before in
-    let k₂ = k₁ .before .before .before .before .before .before .before .before .before .before .before .before .before .before .before .before .before .before .before .before .before in
+    let k₂ = k₁ .before .before .before .before .before .before .before .before .before .before .before .before .before .before .before .before .before .before .before .before in
     (k₂ .pre .1 .1 .near .short, k₁ .list .ensures .on .near .inside)
 
 switch-finish-requires : (t : ℕ) → switch-lts.Need-finish-requires (switch-calls t) (switch-at t) switch.Post
 switch-finish-requires t c κs = search needs
 
 switch-same-length : (t : ℕ) → switch-lts.Need-same-length (switch-calls t) (switch-at t) switch.Post
+unfolding beside
 switch-same-length t c =
     let k₁ = c .before .before in
     let k₂ = k₁ .before .before .before .before .before .before .before in
     let k₃ = k₂ .before .before .before .before .before .before .before .before in
     let k₄ = k₃ .before .before .before .before .before .before in
-    k₁ .finish .ensures .long ∙ k₂ .list .ensures .on .long ∙ k₃ .cases .ensures .on .long ∙ k₄ .one-case .ensures .on .long
+    same-size (k₁ .finish .ensures .kept ∙ k₂ .list .ensures .on .kept ∙ k₃ .cases .ensures .on .kept ∙ k₄ .one-case .ensures .on .kept)
 
 switch-returns : (t : ℕ) → switch-lts.Need-returns (switch-calls t) (switch-at t) switch.Post
 switch-returns t c =
@@ -802,8 +821,8 @@ switch-returns t c =
     let k₇ = k₆ .before .before .before .before .before .before in
     let k₈ = k₇ .before .before in
     let k₉ = k₈ .before in
-    let k₁₀ = k₉ .before .before .before .before in
-    λ b. switch-came (k₁₀ .pre .1 .1 .near) (k₉ .begun .ensures) (k₈ .word-from .ensures) (k₇ .one-case .ensures) (k₆ .cases .ensures) (k₅ .word-from2 .ensures) (k₄ .word-from3 .ensures) (k₃ .list .ensures) (k₂ .word-from4 .ensures) (k₁ .finish .ensures)
+    let k₁₀ = k₉ .before .before .before in
+    λ b. switch-came (k₁₀ .pre .1 .1 .near) (k₉ .begun .ensures) (k₈ .word-from .ensures) (k₇ .one-case .ensures) (rw (k₇ .one-case .ensures .on .kept) at (k₆ .cases .ensures)) (k₅ .word-from2 .ensures) (k₄ .word-from3 .ensures) (rw (k₆ .cases .ensures .on .kept ∙ k₇ .one-case .ensures .on .kept) at (k₃ .list .ensures)) (k₂ .word-from4 .ensures) (k₁ .finish .ensures)
 
 abbrev while-loop-calls : ℕ → while-loop-lts.Claims
 while-loop-calls t = (begun-reads.Asked, begun-reads.Learnt, word-from-reads.Asked, word-from-reads.Learnt, test-reads.Asked, test-reads.Learnt, list-below t, list.Post, finish-reads.Asked, finish-reads.Learnt)
@@ -812,33 +831,33 @@ while-loop-begun-requires : (t : ℕ) → while-loop-lts.Need-begun-requires (wh
 while-loop-begun-requires t c κs = search needs
 
 while-loop-word-from-requires : (t : ℕ) → while-loop-lts.Need-word-from-requires (while-loop-calls t) (while-loop-at t) while-loop.Post
-while-loop-word-from-requires t c κs = (c .before .before .before .before .pre .1 .1 .near .short, c .before .before .before .before .pre .1 .1 .near .inside)
+while-loop-word-from-requires t c κs = (c .before .before .before .pre .1 .1 .near .short, c .before .before .before .pre .1 .1 .near .inside)
 
 while-loop-sub-below : (t : ℕ) → while-loop-lts.Need-sub-below (while-loop-calls t) (while-loop-at t) while-loop.Post
-while-loop-sub-below t c = omega (arith, c .before .before .before .before .before .pre .1 .0)
+while-loop-sub-below t c = omega (arith, c .before .before .before .before .pre .1 .0)
 
 while-loop-test-requires : (t : ℕ) → while-loop-lts.Need-test-requires (while-loop-calls t) (while-loop-at t) while-loop.Post
 while-loop-test-requires t c κs =
     let k₁ = c .before in
-    let k₂ = k₁ .before .before .before .before .before in
+    let k₂ = k₁ .before .before .before .before in
     record { near = k₁ .word-from .ensures .near; listed = k₂ .pre .1 .1 .listed; few = omega (arith, k₂ .pre .1 .1 .few) }
 
 while-loop-word-from-requires-2 : (t : ℕ) → while-loop-lts.Need-word-from-requires-2 (while-loop-calls t) (while-loop-at t) while-loop.Post
 while-loop-word-from-requires-2 t c κs =
     let k₁ = c .before .before .before .before in
-    let k₂ = k₁ .before .before .before .before .before .before .before in
+    let k₂ = k₁ .before .before .before .before .before .before in
     (k₂ .pre .1 .1 .near .short, k₁ .test .ensures .on .near .inside)
 
 while-loop-list-requires : (t : ℕ) → while-loop-lts.Need-list-requires (while-loop-calls t) (while-loop-at t) while-loop.Post
 while-loop-list-requires t c κs =
     let k₁ = c .before in
-    let k₂ = k₁ .before .before .before .before .before .before .before .before .before .before .before .before in
-    (omega (arith, k₂ .pre .0, k₂ .pre .1 .0), record { near = k₁ .word-from2 .ensures .near; listed = k₂ .pre .1 .1 .listed; few = omega (arith, k₂ .pre .1 .1 .few) })
+    let k₂ = k₁ .before .before .before .before .before .before .before .before .before .before .before in
+    (omega (arith, k₂ .pre .0, k₂ .pre .1 .0), record { near = k₁ .word-from2 .ensures .near; listed = rw (k₁ .before .before .before .before .before .test .ensures .on .kept) (k₂ .pre .1 .1 .listed); few = omega (arith, k₂ .pre .1 .1 .few) })
 
 while-loop-word-from-requires-3 : (t : ℕ) → while-loop-lts.Need-word-from-requires-3 (while-loop-calls t) (while-loop-at t) while-loop.Post
 while-loop-word-from-requires-3 t c κs =
     let k₁ = c .before .before .before .before in
-    let k₂ = k₁ .before .before .before .before .before .before .before .before .before .before .before .before .before .before in
+    let k₂ = k₁ .before .before .before .before .before .before .before .before .before .before .before .before .before in
     (k₂ .pre .1 .1 .near .short, k₁ .list .ensures .on .near .inside)
 
 while-loop-cast-finish : (t : ℕ) → while-loop-lts.Need-cast-finish (while-loop-calls t) (while-loop-at t) while-loop.Post
@@ -848,11 +867,12 @@ while-loop-finish-requires : (t : ℕ) → while-loop-lts.Need-finish-requires (
 while-loop-finish-requires t c κs = search needs
 
 while-loop-same-length : (t : ℕ) → while-loop-lts.Need-same-length (while-loop-calls t) (while-loop-at t) while-loop.Post
+unfolding beside
 while-loop-same-length t c =
     let k₁ = c .before .before in
     let k₂ = k₁ .before .before .before .before .before .before .before .before in
     let k₃ = k₂ .before .before .before .before .before .before .before in
-    k₁ .finish .ensures .long ∙ k₂ .list .ensures .on .long ∙ k₃ .test .ensures .on .long
+    same-size (k₁ .finish .ensures .kept ∙ k₂ .list .ensures .on .kept ∙ k₃ .test .ensures .on .kept)
 
 while-loop-returns : (t : ℕ) → while-loop-lts.Need-returns (while-loop-calls t) (while-loop-at t) while-loop.Post
 while-loop-returns t c =
@@ -863,8 +883,8 @@ while-loop-returns t c =
     let k₅ = k₄ .before .before .before .before .before in
     let k₆ = k₅ .before .before in
     let k₇ = k₆ .before in
-    let k₈ = k₇ .before .before .before .before in
-    λ l. while-came (k₈ .pre .1 .1 .near) (k₇ .begun .ensures) (k₆ .word-from .ensures) (k₅ .test .ensures) (k₄ .word-from2 .ensures) (k₃ .list .ensures) (k₂ .word-from3 .ensures) (k₁ .finish .ensures)
+    let k₈ = k₇ .before .before .before in
+    λ l. while-came (k₈ .pre .1 .1 .near) (k₇ .begun .ensures) (k₆ .word-from .ensures) (k₅ .test .ensures) (k₄ .word-from2 .ensures) (rw (k₅ .test .ensures .on .kept) at (k₃ .list .ensures)) (k₂ .word-from3 .ensures) (k₁ .finish .ensures)
 
 pub +branch+branches+cases+choice+list+loop-always+one-case+parallel+stmt+switch+while-loop-spec : {M : Type 1} → statement M
 +branch+branches+cases+choice+list+loop-always+one-case+parallel+stmt+switch+while-loop-spec = close μ-branch μ-branches μ-cases μ-choice μ-list μ-loop-always μ-one-case μ-parallel μ-stmt μ-switch μ-while-loop

@@ -1,6 +1,7 @@
 -- `stmts::body` meets its contract.
 -- Assumes nothing.
 use borrow.Author.Needs.{needs}
+use Rattle.parts.specs.Beside.{beside}
 use Rattle.stmts.proofs.body.Statement.{statement}
 use Rattle.stmts.proofs.body.Tie as tie
 
@@ -8,6 +9,7 @@ start-requires : tie.Need-start-requires
 start-requires c κs = search needs
 
 list-requires : tie.Need-list-requires
+unfolding beside
 list-requires c κs = search needs
 
 same-length : tie.Need-same-length

@@ -19,7 +19,7 @@ same-length : tie.Need-same-length
 same-length c = search needs
 
 returns : tie.Need-returns
-returns c = plain-number (c .before .before .before .before .before .before .before .before .before .before .pre .0) (c .before .before .before .before .before .before .word-from .ensures) (c .before .before .before .before .before .if1 .taken) (c .before .before .leaf .ensures .0) (c .before .before .leaf .ensures .1)
+returns c = plain-number (c .before .before .before .before .before .before .before .before .before .pre .0) (c .before .before .before .before .before .before .word-from .ensures) (c .before .before .before .before .before .if1 .taken) (c .before .before .leaf .ensures .0) (c .before .before .leaf .ensures .1)
 
 leaf-requires-2 : tie.Need-leaf-requires-2
 leaf-requires-2 c κs = search needs
@@ -28,7 +28,7 @@ same-length-2 : tie.Need-same-length-2
 same-length-2 c = search needs
 
 returns-2 : tie.Need-returns-2
-returns-2 c = plain-true (c .before .before .before .before .before .before .before .before .before .before .pre .0) (c .before .before .before .before .before .before .word-from .ensures) (c .before .before .before .before .if2 .taken) (c .before .before .leaf2 .ensures .0) (c .before .before .leaf2 .ensures .1)
+returns-2 c = plain-true (c .before .before .before .before .before .before .before .before .before .pre .0) (c .before .before .before .before .before .before .word-from .ensures) (c .before .before .before .before .if2 .taken) (c .before .before .leaf2 .ensures .0) (c .before .before .leaf2 .ensures .1)
 
 leaf-requires-3 : tie.Need-leaf-requires-3
 leaf-requires-3 c κs = search needs
@@ -37,7 +37,7 @@ same-length-3 : tie.Need-same-length-3
 same-length-3 c = search needs
 
 returns-3 : tie.Need-returns-3
-returns-3 c = plain-false (c .before .before .before .before .before .before .before .before .before .before .before .pre .0) (c .before .before .before .before .before .before .before .word-from .ensures) (c .before .before .before .before .if3 .taken) (c .before .before .leaf3 .ensures .0) (c .before .before .leaf3 .ensures .1)
+returns-3 c = plain-false (c .before .before .before .before .before .before .before .before .before .before .pre .0) (c .before .before .before .before .before .before .before .word-from .ensures) (c .before .before .before .before .if3 .taken) (c .before .before .leaf3 .ensures .0) (c .before .before .leaf3 .ensures .1)
 
 find-requires : tie.Need-find-requires
 find-requires c κs = c .before .before .before .before .before .before .before .pre .1
@@ -49,7 +49,7 @@ same-length-4 : tie.Need-same-length-4
 same-length-4 c = search needs
 
 returns-4 : tie.Need-returns-4
-returns-4 c = plain-name (c .before .before .before .before .before .before .before .before .before .before .before .before .before .before .pre .0) (c .before .before .before .before .before .before .before .before .before .before .word-from .ensures) (omega (arith, c .before .before .before .before .before .before .before .before .before .before .before .before .before .before .pre .2)) (c .before .before .before .before .if4 .taken) (c .before .before .before .before .before .before .find .ensures) (c .before .before .named .ensures .0) (c .before .before .named .ensures .1)
+returns-4 c = plain-name (c .before .before .before .before .before .before .before .before .before .before .before .before .before .before .pre .0) (c .before .before .before .before .before .before .before .before .before .before .before .word-from .ensures) (omega (arith, c .before .before .before .before .before .before .before .before .before .before .before .before .before .before .pre .2)) (c .before .before .before .before .if4 .taken) (c .before .before .before .before .before .before .find .ensures) (c .before .before .named .ensures .0) (c .before .before .named .ensures .1)
 
 word-from-requires-2 : tie.Need-word-from-requires-2
 word-from-requires-2 c κs = search needs
@@ -67,7 +67,7 @@ same-length-5 : tie.Need-same-length-5
 same-length-5 c = search needs
 
 returns-5 : tie.Need-returns-5
-returns-5 c = plain-bit (c .before .before .before .before .before .before .before .before .before .before .before .before .before .before .before .before .before .pre .0) (c .before .before .before .before .before .before .before .before .before .before .before .before .before .word-from .ensures) (c .before .before .before .before .before .before .before .before .before .before .before .before .if1 .left) (c .before .before .before .before .before .before .before .before .before .before .before .if2 .left) (c .before .before .before .before .before .before .before .before .before .before .if3 .left) (c .before .before .before .before .before .before .before .before .before .before .before .before .before .before .before .before .before .pre .2) (c .before .before .before .before .before .before .before .if4 .left) (c .before .before .before .before .before .before .before .before .before .find .ensures) (c .before .before .before .before .before .before .word-from2 .ensures) (c .before .before .before .before .before .word-from3 .ensures) (c .before .before .before .before .word-from4 .ensures) (c .before .before .indexed .ensures .0) (c .before .before .indexed .ensures .1)
+returns-5 c = plain-bit (c .before .before .before .before .before .before .before .before .before .before .before .before .before .before .before .before .before .pre .0) (c .before .before .before .before .before .before .before .before .before .before .before .before .before .before .word-from .ensures) (c .before .before .before .before .before .before .before .before .before .before .before .before .before .if1 .left) (c .before .before .before .before .before .before .before .before .before .before .before .before .if2 .left) (c .before .before .before .before .before .before .before .before .before .before .before .if3 .left) (c .before .before .before .before .before .before .before .before .before .before .before .before .before .before .before .before .before .pre .2) (c .before .before .before .before .before .before .before .if4 .left) (c .before .before .before .before .before .before .before .before .before .find .ensures) (c .before .before .before .before .before .before .word-from2 .ensures) (c .before .before .before .before .before .word-from3 .ensures) (c .before .before .before .before .word-from4 .ensures) (c .before .before .indexed .ensures .0) (c .before .before .indexed .ensures .1)
 
 pub plain-spec : {M : Type 1} → statement M
 plain-spec =
