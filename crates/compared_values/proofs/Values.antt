@@ -22,6 +22,7 @@ pub record Values : Type 0 where
   pub field-assigned : Lists 256 "program p; output A; integer x[3] = 7, y[3] = 5, z[2] = 3; y := y + z + 10; if (x == 7) & (y == 2) & (z == 3) & !x[0] == x[0] then skip else raise(A) endif; if y[1] & x[2] & z[1] then lower(A) else skip endif endprog" "machine p\ninputs -\noutputs A\nstates 4\n0 0 1\n1 0 2\n2 1 3\n3 0 3\n"
   pub order : Lists 256 "program p; input I; output A; input J; output B; internal C, D = true; integer x[2] = 1; integer y[1]; if I then raise(A); lower(D) endif; if J & D then raise(B) endif endprog" "machine p\ninputs I J\noutputs A B\nstates 6\n0 0 0 1 2 3 2\n1 0 0 1 1 1 1\n2 1 0 4 4 4 4\n3 0 1 3 3 3 3\n4 1 0 5 5 5 5\n5 1 0 5 5 5 5\n"
   pub initial-bits : Lists 256 "program p; output A, B = true, C, D = true; internal E, F = true; integer x[3] = 5, y[3] = 14; if (x == 5) & (y == 6) & F & !E then raise(A) endif endprog" "machine p\ninputs -\noutputs A B C D\nstates 2\n0 0 1 0 1 1\n1 1 1 0 1 1\n"
+  pub initial-truths : Lists 256 "program p; output A = false, B = true; skip endprog" "machine p\ninputs -\noutputs A B\nstates 2\n0 0 1 1\n1 0 1 1\n"
 
 pub values : Values
 unfolding yieldIn
@@ -45,4 +46,5 @@ values =
       field-assigned = lists refl;
       order = lists refl;
       initial-bits = lists refl;
+      initial-truths = lists refl;
     }
