@@ -1,5 +1,5 @@
 #!/usr/bin/env python3
-# Makes crates/grammar_law/specs/Tables.antt and the tables of crates/grammar/src from the grammar in crates/language/specs, and
+# Makes crates/grammar_law/specs/Tables.antt and the tables of crates/tables/src from the grammar in crates/language/specs, and
 # crates/words/src/spellings.rt from its lists of words. Nothing rests on it: every entry of every table is tested where it is proved.
 import os
 import re
@@ -193,12 +193,12 @@ def source(crate, module, text):
     open(os.path.join(ROOT, crate, 'src', module + '.rt'), 'w').write(text)
 
 
-source('grammar', 'rows', '// How many bytes the rows have.\npub const LENGTH: usize = %d;\n\n' % len(rows) + const("The grammar's rows: kinds below 126, 126 opens a level, 127 closes one, parts from 128 on; a row ends at 0, and row 1 is the start. Made by tools/tables.py.", 'ROWS', 'u8', rows))
-entries = [(n * COLUMNS + t, at, '%s: %s' % (p, (['end'] + kinds)[t])) for n, p in enumerate(parts) for at, ts in calls[p] for t in ts]
+source('tables', 'rows', '// How many bytes the rows have.\npub const LENGTH: usize = %d;\n\n' % len(rows) + const("The grammar's rows: kinds below 126, 126 opens a level, 127 closes one, parts from 128 on; a row ends at 0, and row 1 is the start. Made by tools/tables.py.", 'ROWS', 'u8', rows))
+entries = sorted((n * COLUMNS + t, at, '%s: %s' % (p, (['end'] + kinds)[t])) for n, p in enumerate(parts) for at, ts in calls[p] for t in ts)
 notes = [e[2] for e in entries]
-source('grammar', 'starts', '\n'.join([
-    '// Which word calls for which row of a part. Made by tools/tables.py; what is laid out of it is proved to be the definition\'s.\n',
-    '// How many cells the table of starts has, and how many of them are not 0.\npub const CELLS: usize = %d;\n\npub const CALLS: usize = %d;\n' % (COLUMNS * len(parts), len(entries)),
+source('tables', 'calls', '\n'.join([
+    '// Which word calls for which row of a part, in the order of the cells. Made by tools/tables.py; what is laid out of it is proved to be the definition\'s.\n',
+    '// How many cells the table of starts has, and how many of them are not 0.\npub const CELLS: usize = %d;\n\npub const COUNT: usize = %d;\n' % (COLUMNS * len(parts), len(entries)),
     const('128 times the number of the part, plus the kind of the word.', 'CALLED', 'u16', [e[0] for e in entries], notes),
     const('Where the row begins that it calls for.', 'PLACES', 'u16', [e[1] for e in entries], notes)]))
 

@@ -6,6 +6,8 @@ use mathlib.Core.List.{List, [], _∷_, map}
 use Prim.Native.Nat.{ℕ, zero, suc, _≤_, _<_}
 use native.Mathlib.Decide.{ℕ-discrete}
 use native.Mathlib.Omega.{arith}
+use lib.Dec.{leb}
+use borrow.Author.Tests.{leb-true}
 use lib.ListN.{length, getD, length-map, List·getD-eq-default}
 use Rattle.ll1.specs.Grammar.{Read, sentence, refused, Answers}
 use Rattle.ll1.specs.Rows as rows
@@ -24,9 +26,11 @@ use Rattle.words.specs.declared.Stop.{Stop}
 use Rattle.words.specs.declared.Stop.the-variants.{At, None}
 use Rattle.grammar_law.specs.Tables as tables
 use Rattle.grammar_law.specs.Codes.{codes, choice}
-use Rattle.grammar_law.proofs.Serves.{start-row}
+use Rattle.grammar_law.specs.Starts.{among, called, across, laid, starts}
+use Rattle.grammar_law.proofs.Serves as serves
+use Rattle.grammar_law.proofs.Serves.{start-row, start-closed}
 use Rattle.grammar_law.proofs.Whole.{all-read, some-read, stops-there}
-use Rattle.grammar.specs.Reading.{codeOf, listed, wordsIn, endsAt, codesIn, Left, Stands, Said, Meets}
+use Rattle.grammar.specs.Reading.{codeOf, listed, wordsIn, endsAt, codesIn, Left, Stands, Ready, Said, Meets}
 use Rattle.grammar.specs.Meaning.{Fault}
 use Rattle.grammar.specs.declared.Here.{Here}
 use Rattle.grammar.specs.declared.Got.{Got}
@@ -69,6 +73,29 @@ ended (w ∷ ws) (suc i) e = omega (arith, ended ws i e)
 pub at-start : (s : List ℕ) → Left s 0 0
 at-start s = record { fits = omega arith; count = omega arith; rest = is-met s }
 
+rows-fit : leb (length tables.rows) tables.rowBytes ≡ true
+unfolding tables.rows
+rows-fit = refl
+
+starts-fit : leb (length starts) tables.cellCount ≡ true
+unfolding starts laid across called among tables.calls
+starts-fit = refl
+
+-- the two tables serve from the start row on
+pub ready : (s : List ℕ) {t u : List ℕ} {w : Here} → t ≡ tables.rows → u ≡ starts → length s ≤ mostBytes → Stands s w → Ready t u s 1 w mostLevels
+ready s {u = u} {w = w} q r h x =
+    subst (λ (l : List ℕ). Ready l u s 1 w mostLevels) (sym q)
+    (subst (λ (l : List ℕ). Ready tables.rows l s 1 w mostLevels) (sym r)
+    (record {
+      rows-fit = leb-true (length tables.rows) tables.rowBytes rows-fit;
+      starts-fit = leb-true (length starts) tables.cellCount starts-fit;
+      tables = serves.tables;
+      closed = start-closed;
+      short = h;
+      word = x;
+      few = omega arith;
+    }))
+
 module _ (s : List ℕ) where
   -- the end of the words that are met is the place of the 4, if there is one
   ends-so : stopOf (wordsOf s) ≡ endMet s
@@ -93,11 +120,11 @@ module _ (s : List ℕ) where
         (five cut-words (known (refused (w .number)) y))
 
   -- what the reader says from the start row on, of the first word on
-  module _ {f : Here} {g : Got} (x : Meets (rows.row codes tables.rows 1) s f mostLevels g) (i : f .number ≡ 0) where
+  module _ {t : List ℕ} (r : t ≡ tables.rows) {f : Here} {g : Got} (x : Meets (rows.row codes t 1) s f mostLevels g) (i : f .number ≡ 0) where
     says : Said wholeProgram s 0 mostLevels (g .word .number) (g .ok)
     says =
         subst (λ (n : ℕ). Said wholeProgram s n mostLevels (g .word .number) (g .ok)) i
-        (subst (λ (a : Line). Said a s (f .number) mostLevels (g .word .number) (g .ok)) start-row (x .said))
+        (subst (λ (a : Line). Said a s (f .number) mostLevels (g .word .number) (g .ok)) (ap (λ (l : List ℕ). rows.row codes l 1) r ∙ start-row) (x .said))
 
     read-to : g .ok ≡ true → ReadTo codes choice wholeProgram (codesIn s) 0 mostLevels (g .word .number)
     read-to q = is-read wholeProgram s 0 mostLevels (g .word .number) (g .ok) q says

@@ -1,4 +1,3 @@
-pub mod Laid
 pub mod Codes
 pub mod Along
 pub mod Answers

@@ -7,13 +7,11 @@ ghost use lib.ListN.{length};
 ghost use Rattle.language.specs.Texts.{mostBytes};
 ghost use Rattle.grammar.specs.Meaning.{Fault, Says};
 ghost use Rattle.grammar.specs.Reading.{Left, Stands, Serves, Turned, Ready, Meets};
-use table::Rows;
-use table::Starts;
+use tables::Rows;
+use tables::Starts;
 use words::Next;
 use words::Stop;
 
-mod rows;
-mod starts;
 mod table;
 
 // "Source 8,192 bytes"
@@ -188,8 +186,8 @@ fn read_all(text: &[u8]) -> Checked
     requires { ⌜ length (now text) ≤ mostBytes ⌝ }
     ensures { λ r. ⌜ Says (now (text .entry)) r ⌝ }
 {
-    let rows = rows::ROWS;
-    let starts = table::laid_out();
+    let rows = tables::all_rows();
+    let starts = tables::all_starts();
     let first = word_from(text, 0, 0);
     let g = read(&rows, &starts, text, 1, first, MOST_LEVELS);
     let w = g.word;

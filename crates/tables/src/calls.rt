@@ -1,14 +1,18 @@
-// Which word calls for which row of a part. Made by tools/tables.py; what is laid out of it is proved to be the definition's.
+// Which word calls for which row of a part, in the order of the cells. Made by tools/tables.py; what is laid out of it is proved to be the definition's.
 
 // How many cells the table of starts has, and how many of them are not 0.
 pub const CELLS: usize = 4352;
 
-pub const CALLS: usize = 285;
+pub const COUNT: usize = 285;
 
 // 128 times the number of the part, plus the kind of the word.
 pub const CALLED: [u16; 285] = [
     27, // Program: program
     129, // Declarations: name
+    157, // Declarations: input
+    158, // Declarations: output
+    159, // Declarations: internal
+    160, // Declarations: integer
     164, // Declarations: skip
     165, // Declarations: delay
     166, // Declarations: raise
@@ -21,10 +25,6 @@ pub const CALLED: [u16; 285] = [
     178, // Declarations: switch
     182, // Declarations: break
     183, // Declarations: parallel
-    157, // Declarations: input
-    158, // Declarations: output
-    159, // Declarations: internal
-    160, // Declarations: integer
     285, // Declaration: input
     286, // Declaration: output
     287, // Declaration: internal
@@ -33,24 +33,24 @@ pub const CALLED: [u16; 285] = [
     525, // MoreInputs: ;
     526, // MoreInputs: ,
     648, // Ending: =
-    653, // Ending: ;
-    654, // Ending: ,
     651, // Ending: .H
     652, // Ending: .L
+    653, // Ending: ;
+    654, // Ending: ,
     769, // Booleans: name
     909, // MoreBooleans: ;
     910, // MoreBooleans: ,
+    1032, // BooleanStart: =
     1037, // BooleanStart: ;
     1038, // BooleanStart: ,
-    1032, // BooleanStart: =
     1185, // BooleanValue: true
     1186, // BooleanValue: false
     1281, // Integers: name
     1421, // MoreIntegers: ;
     1422, // MoreIntegers: ,
+    1544, // IntegerStart: =
     1549, // IntegerStart: ;
     1550, // IntegerStart: ,
-    1544, // IntegerStart: =
     1665, // Statements: name
     1700, // Statements: skip
     1701, // Statements: delay
@@ -65,6 +65,7 @@ pub const CALLED: [u16; 285] = [
     1718, // Statements: break
     1719, // Statements: parallel
     1795, // AfterStatement: ||
+    1805, // AfterStatement: ;
     1820, // AfterStatement: endprog
     1835, // AfterStatement: else
     1836, // AfterStatement: endif
@@ -73,35 +74,34 @@ pub const CALLED: [u16; 285] = [
     1844, // AfterStatement: default
     1845, // AfterStatement: endswitch
     1848, // AfterStatement: endparallel
-    1805, // AfterStatement: ;
+    1921, // NextStatement: name
     1923, // NextStatement: ||
     1948, // NextStatement: endprog
-    1963, // NextStatement: else
-    1964, // NextStatement: endif
-    1968, // NextStatement: endloop
-    1971, // NextStatement: case
-    1972, // NextStatement: default
-    1973, // NextStatement: endswitch
-    1976, // NextStatement: endparallel
-    1921, // NextStatement: name
     1956, // NextStatement: skip
     1957, // NextStatement: delay
     1958, // NextStatement: raise
     1959, // NextStatement: lower
     1960, // NextStatement: invert
     1961, // NextStatement: if
+    1963, // NextStatement: else
+    1964, // NextStatement: endif
     1965, // NextStatement: while
     1967, // NextStatement: loop
+    1968, // NextStatement: endloop
     1969, // NextStatement: exit
     1970, // NextStatement: switch
+    1971, // NextStatement: case
+    1972, // NextStatement: default
+    1973, // NextStatement: endswitch
     1974, // NextStatement: break
     1975, // NextStatement: parallel
+    1976, // NextStatement: endparallel
+    2049, // Statement: name
     2084, // Statement: skip
     2085, // Statement: delay
     2086, // Statement: raise
     2087, // Statement: lower
     2088, // Statement: invert
-    2049, // Statement: name
     2089, // Statement: if
     2093, // Statement: while
     2095, // Statement: loop
@@ -109,12 +109,12 @@ pub const CALLED: [u16; 285] = [
     2098, // Statement: switch
     2102, // Statement: break
     2103, // Statement: parallel
-    2220, // Else: endif
     2219, // Else: else
-    2356, // Cases: default
+    2220, // Else: endif
     2355, // Cases: case
-    2488, // Branches: endparallel
+    2356, // Cases: default
     2435, // Branches: ||
+    2488, // Branches: endparallel
     2561, // Target: name
     2691, // Index: ||
     2692, // Index: |
@@ -123,6 +123,7 @@ pub const CALLED: [u16; 285] = [
     2698, // Index: :
     2701, // Index: ;
     2704, // Index: )
+    2705, // Index: [
     2707, // Index: >
     2708, // Index: <
     2709, // Index: &
@@ -141,7 +142,6 @@ pub const CALLED: [u16; 285] = [
     2740, // Index: default
     2741, // Index: endswitch
     2744, // Index: endparallel
-    2705, // Index: [
     2817, // Tier 0: name
     2818, // Tier 0: number
     2822, // Tier 0: !
@@ -163,9 +163,9 @@ pub const CALLED: [u16; 285] = [
     3105, // Tier 2: true
     3106, // Tier 2: false
     3107, // Tier 2: int
-    3206, // Tier 3: !
     3201, // Tier 3: name
     3202, // Tier 3: number
+    3206, // Tier 3: !
     3215, // Tier 3: (
     3233, // Tier 3: true
     3234, // Tier 3: false
@@ -184,14 +184,18 @@ pub const CALLED: [u16; 285] = [
     3491, // Tier 5: int
     3585, // Tier 6: name
     3586, // Tier 6: number
+    3599, // Tier 6: (
     3617, // Tier 6: true
     3618, // Tier 6: false
     3619, // Tier 6: int
-    3599, // Tier 6: (
     3715, // Further 0: ||
+    3717, // Further 0: !=
+    3719, // Further 0: ==
     3722, // Further 0: :
     3725, // Further 0: ;
     3728, // Further 0: )
+    3731, // Further 0: >
+    3732, // Further 0: <
     3740, // Further 0: endprog
     3754, // Further 0: then
     3755, // Further 0: else
@@ -202,10 +206,6 @@ pub const CALLED: [u16; 285] = [
     3764, // Further 0: default
     3765, // Further 0: endswitch
     3768, // Further 0: endparallel
-    3719, // Further 0: ==
-    3717, // Further 0: !=
-    3731, // Further 0: >
-    3732, // Further 0: <
     3843, // Further 1: ||
     3845, // Further 1: !=
     3847, // Further 1: ==
@@ -214,6 +214,7 @@ pub const CALLED: [u16; 285] = [
     3856, // Further 1: )
     3859, // Further 1: >
     3860, // Further 1: <
+    3861, // Further 1: &
     3868, // Further 1: endprog
     3882, // Further 1: then
     3883, // Further 1: else
@@ -224,8 +225,8 @@ pub const CALLED: [u16; 285] = [
     3892, // Further 1: default
     3893, // Further 1: endswitch
     3896, // Further 1: endparallel
-    3861, // Further 1: &
     3971, // Further 2: ||
+    3972, // Further 2: |
     3973, // Further 2: !=
     3975, // Further 2: ==
     3978, // Further 2: :
@@ -244,7 +245,6 @@ pub const CALLED: [u16; 285] = [
     4020, // Further 2: default
     4021, // Further 2: endswitch
     4024, // Further 2: endparallel
-    3972, // Further 2: |
     4099, // Further 4: ||
     4100, // Further 4: |
     4101, // Further 4: !=
@@ -255,6 +255,8 @@ pub const CALLED: [u16; 285] = [
     4115, // Further 4: >
     4116, // Further 4: <
     4117, // Further 4: &
+    4118, // Further 4: +
+    4119, // Further 4: -
     4124, // Further 4: endprog
     4138, // Further 4: then
     4139, // Further 4: else
@@ -265,8 +267,6 @@ pub const CALLED: [u16; 285] = [
     4148, // Further 4: default
     4149, // Further 4: endswitch
     4152, // Further 4: endparallel
-    4118, // Further 4: +
-    4119, // Further 4: -
     4227, // Further 5: ||
     4228, // Further 5: |
     4229, // Further 5: !=
@@ -279,6 +279,9 @@ pub const CALLED: [u16; 285] = [
     4245, // Further 5: &
     4246, // Further 5: +
     4247, // Further 5: -
+    4248, // Further 5: *
+    4249, // Further 5: /
+    4250, // Further 5: %
     4252, // Further 5: endprog
     4266, // Further 5: then
     4267, // Further 5: else
@@ -289,15 +292,16 @@ pub const CALLED: [u16; 285] = [
     4276, // Further 5: default
     4277, // Further 5: endswitch
     4280, // Further 5: endparallel
-    4248, // Further 5: *
-    4249, // Further 5: /
-    4250, // Further 5: %
 ];
 
 // Where the row begins that it calls for.
 pub const PLACES: [u16; 285] = [
     3, // Program: program
     10, // Declarations: name
+    11, // Declarations: input
+    11, // Declarations: output
+    11, // Declarations: internal
+    11, // Declarations: integer
     10, // Declarations: skip
     10, // Declarations: delay
     10, // Declarations: raise
@@ -310,10 +314,6 @@ pub const PLACES: [u16; 285] = [
     10, // Declarations: switch
     10, // Declarations: break
     10, // Declarations: parallel
-    11, // Declarations: input
-    11, // Declarations: output
-    11, // Declarations: internal
-    11, // Declarations: integer
     15, // Declaration: input
     18, // Declaration: output
     21, // Declaration: internal
@@ -322,24 +322,24 @@ pub const PLACES: [u16; 285] = [
     31, // MoreInputs: ;
     32, // MoreInputs: ,
     35, // Ending: =
-    35, // Ending: ;
-    35, // Ending: ,
     36, // Ending: .H
     38, // Ending: .L
+    35, // Ending: ;
+    35, // Ending: ,
     40, // Booleans: name
     45, // MoreBooleans: ;
     46, // MoreBooleans: ,
+    50, // BooleanStart: =
     49, // BooleanStart: ;
     49, // BooleanStart: ,
-    50, // BooleanStart: =
     53, // BooleanValue: true
     55, // BooleanValue: false
     57, // Integers: name
     64, // MoreIntegers: ;
     65, // MoreIntegers: ,
+    69, // IntegerStart: =
     68, // IntegerStart: ;
     68, // IntegerStart: ,
-    69, // IntegerStart: =
     72, // Statements: name
     72, // Statements: skip
     72, // Statements: delay
@@ -354,6 +354,7 @@ pub const PLACES: [u16; 285] = [
     72, // Statements: break
     72, // Statements: parallel
     75, // AfterStatement: ||
+    76, // AfterStatement: ;
     75, // AfterStatement: endprog
     75, // AfterStatement: else
     75, // AfterStatement: endif
@@ -362,35 +363,34 @@ pub const PLACES: [u16; 285] = [
     75, // AfterStatement: default
     75, // AfterStatement: endswitch
     75, // AfterStatement: endparallel
-    76, // AfterStatement: ;
+    80, // NextStatement: name
     79, // NextStatement: ||
     79, // NextStatement: endprog
-    79, // NextStatement: else
-    79, // NextStatement: endif
-    79, // NextStatement: endloop
-    79, // NextStatement: case
-    79, // NextStatement: default
-    79, // NextStatement: endswitch
-    79, // NextStatement: endparallel
-    80, // NextStatement: name
     80, // NextStatement: skip
     80, // NextStatement: delay
     80, // NextStatement: raise
     80, // NextStatement: lower
     80, // NextStatement: invert
     80, // NextStatement: if
+    79, // NextStatement: else
+    79, // NextStatement: endif
     80, // NextStatement: while
     80, // NextStatement: loop
+    79, // NextStatement: endloop
     80, // NextStatement: exit
     80, // NextStatement: switch
+    79, // NextStatement: case
+    79, // NextStatement: default
+    79, // NextStatement: endswitch
     80, // NextStatement: break
     80, // NextStatement: parallel
+    79, // NextStatement: endparallel
+    108, // Statement: name
     82, // Statement: skip
     84, // Statement: delay
     87, // Statement: raise
     94, // Statement: lower
     101, // Statement: invert
-    108, // Statement: name
     112, // Statement: if
     121, // Statement: while
     130, // Statement: loop
@@ -398,12 +398,12 @@ pub const PLACES: [u16; 285] = [
     138, // Statement: switch
     151, // Statement: break
     153, // Statement: parallel
-    162, // Else: endif
     163, // Else: else
-    166, // Cases: default
+    162, // Else: endif
     167, // Cases: case
-    173, // Branches: endparallel
+    166, // Cases: default
     174, // Branches: ||
+    173, // Branches: endparallel
     178, // Target: name
     181, // Index: ||
     181, // Index: |
@@ -412,6 +412,7 @@ pub const PLACES: [u16; 285] = [
     181, // Index: :
     181, // Index: ;
     181, // Index: )
+    182, // Index: [
     181, // Index: >
     181, // Index: <
     181, // Index: &
@@ -430,7 +431,6 @@ pub const PLACES: [u16; 285] = [
     181, // Index: default
     181, // Index: endswitch
     181, // Index: endparallel
-    182, // Index: [
     186, // Tier 0: name
     186, // Tier 0: number
     186, // Tier 0: !
@@ -452,9 +452,9 @@ pub const PLACES: [u16; 285] = [
     192, // Tier 2: true
     192, // Tier 2: false
     192, // Tier 2: int
-    195, // Tier 3: !
     200, // Tier 3: name
     200, // Tier 3: number
+    195, // Tier 3: !
     200, // Tier 3: (
     200, // Tier 3: true
     200, // Tier 3: false
@@ -473,14 +473,18 @@ pub const PLACES: [u16; 285] = [
     205, // Tier 5: int
     208, // Tier 6: name
     211, // Tier 6: number
+    224, // Tier 6: (
     213, // Tier 6: true
     215, // Tier 6: false
     217, // Tier 6: int
-    224, // Tier 6: (
     230, // Further 0: ||
+    235, // Further 0: !=
+    231, // Further 0: ==
     230, // Further 0: :
     230, // Further 0: ;
     230, // Further 0: )
+    239, // Further 0: >
+    243, // Further 0: <
     230, // Further 0: endprog
     230, // Further 0: then
     230, // Further 0: else
@@ -491,10 +495,6 @@ pub const PLACES: [u16; 285] = [
     230, // Further 0: default
     230, // Further 0: endswitch
     230, // Further 0: endparallel
-    231, // Further 0: ==
-    235, // Further 0: !=
-    239, // Further 0: >
-    243, // Further 0: <
     247, // Further 1: ||
     247, // Further 1: !=
     247, // Further 1: ==
@@ -503,6 +503,7 @@ pub const PLACES: [u16; 285] = [
     247, // Further 1: )
     247, // Further 1: >
     247, // Further 1: <
+    248, // Further 1: &
     247, // Further 1: endprog
     247, // Further 1: then
     247, // Further 1: else
@@ -513,8 +514,8 @@ pub const PLACES: [u16; 285] = [
     247, // Further 1: default
     247, // Further 1: endswitch
     247, // Further 1: endparallel
-    248, // Further 1: &
     252, // Further 2: ||
+    253, // Further 2: |
     252, // Further 2: !=
     252, // Further 2: ==
     252, // Further 2: :
@@ -533,7 +534,6 @@ pub const PLACES: [u16; 285] = [
     252, // Further 2: default
     252, // Further 2: endswitch
     252, // Further 2: endparallel
-    253, // Further 2: |
     257, // Further 4: ||
     257, // Further 4: |
     257, // Further 4: !=
@@ -544,6 +544,8 @@ pub const PLACES: [u16; 285] = [
     257, // Further 4: >
     257, // Further 4: <
     257, // Further 4: &
+    258, // Further 4: +
+    262, // Further 4: -
     257, // Further 4: endprog
     257, // Further 4: then
     257, // Further 4: else
@@ -554,8 +556,6 @@ pub const PLACES: [u16; 285] = [
     257, // Further 4: default
     257, // Further 4: endswitch
     257, // Further 4: endparallel
-    258, // Further 4: +
-    262, // Further 4: -
     266, // Further 5: ||
     266, // Further 5: |
     266, // Further 5: !=
@@ -568,6 +568,9 @@ pub const PLACES: [u16; 285] = [
     266, // Further 5: &
     266, // Further 5: +
     266, // Further 5: -
+    267, // Further 5: *
+    271, // Further 5: /
+    275, // Further 5: %
     266, // Further 5: endprog
     266, // Further 5: then
     266, // Further 5: else
@@ -578,7 +581,4 @@ pub const PLACES: [u16; 285] = [
     266, // Further 5: default
     266, // Further 5: endswitch
     266, // Further 5: endparallel
-    267, // Further 5: *
-    271, // Further 5: /
-    275, // Further 5: %
 ];

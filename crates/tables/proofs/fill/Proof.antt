@@ -1,23 +1,23 @@
--- `grammar::table::fill` meets its contract: after i turns the first i places are put in.
+-- `tables::fill` meets its contract: what is left to put in comes to the whole.
 -- Assumes nothing.
-use mathlib.Core.Path.{_≡_, refl, _∙_, ap}
-use Prim.Native.Nat.{ℕ, _-_, _≤_}
+use mathlib.Core.Path.{_≡_, refl, sym}
+use Prim.Native.Nat.{_-_, _≤_}
+use lib.ListN.{drop}
 use native.Mathlib.Omega.{arith}
 use borrow.Author.Needs.{needs}
 use Rattle.grammar_law.specs.Tables.{callCount}
-use Rattle.grammar.specs.Laying.{stored}
-use Rattle.grammar.proofs.Laid.{store-on}
-use Rattle.grammar.proofs.table.fill.Statement.{statement}
-use Rattle.grammar.proofs.table.fill.Tie as tie
+use Rattle.tables.specs.Laying.{stored}
+use Rattle.tables.proofs.Laid.{store-on, store-over}
+use Rattle.tables.proofs.fill.Statement.{statement}
+use Rattle.tables.proofs.fill.Tie as tie
 
 abbrev Inv-loop : tie.InvT-loop
-Inv-loop t₀ called places i₀ t i = (i ≤ callCount) × (t ≡ stored called places i t₀)
+Inv-loop t₀ called places i₀ t i = (i ≤ callCount) × (stored (drop i called) (drop i places) t ≡ stored called places t₀)
 
 abbrev μ-loop : tie.MeasureT-loop
 μ-loop t₀ called places i₀ t i = callCount - i
 
 loop-holds : tie.Need-loop-holds Inv-loop μ-loop
-unfolding stored
 loop-holds c = (omega arith, refl)
 
 mul-wide : tie.Need-mul-wide Inv-loop μ-loop
@@ -54,14 +54,16 @@ loop-less c = omega arith
 loop-again : tie.Need-loop-again Inv-loop μ-loop
 loop-again c =
     let l = c .before .before .before .before in
-    let a = l .before .args in
-    (omega arith, store-on (a .called .now) (a .places .now) (a .t .now) (l .loop .t) (l .loop .i) (c .before .wide .result) (l .loop .inv .1) (c .before .wide .ensures))
+    let o = l .before in
+    let a = o .args in
+    (omega arith, store-on (a .called .now) (a .places .now) (l .loop .t) _ (l .loop .i) (c .before .wide .result) (omega (arith, o .pre .calls)) (omega (arith, o .pre .rows)) (c .before .wide .ensures) (l .loop .inv .1))
 
 returns : tie.Need-returns Inv-loop μ-loop
 returns c =
     let l = c .before in
-    let a = l .before .args in
-    record { is = l .loop .inv .1 ∙ ap (λ (n : ℕ). stored (a .called .now) (a .places .now) n (a .t .now)) (omega arith) }
+    let o = l .before in
+    let a = o .args in
+    record { is = store-over (a .called .now) (a .places .now) (l .loop .t) _ (l .loop .i) (omega (arith, o .pre .calls)) (l .loop .inv .1) }
 
 pub fill-spec : {M : Type 1} → statement M
 fill-spec =
