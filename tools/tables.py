@@ -1,6 +1,6 @@
 #!/usr/bin/env python3
 # Makes crates/grammar_law/specs/Tables.antt and the tables of crates/tables/src from the grammar in crates/language/specs, and
-# crates/words/src/spellings.rt from its lists of words. Nothing rests on it: every entry of every table is tested where it is proved.
+# crates/spellings/src/data.rt from its lists of words. Nothing rests on it: every entry of every table is tested where it is proved.
 import os
 import re
 
@@ -202,7 +202,7 @@ source('tables', 'calls', '\n'.join([
     const('128 times the number of the part, plus the kind of the word.', 'CALLED', 'u16', [e[0] for e in entries], notes),
     const('Where the row begins that it calls for.', 'PLACES', 'u16', [e[1] for e in entries], notes)]))
 
-# ---- the spellings, for crates/words
+# ---- the spellings
 signs, reserved = strings(words, 'signs'), strings(words, 'reserved')
 spellings = signs + reserved
 
@@ -233,5 +233,5 @@ tables = [
     const('The next reserved word that begins as each does.', 'NEXT_RESERVED', 'u8', [like(g[0], len(spellings), len(signs) + k + 1) for k, g in enumerate(reserved)], reserved),
     const('How many bytes each reserved word has.', 'SIZES', 'u8', [len(g) for g in reserved], reserved),
 ]
-source('words', 'spellings', '\n'.join(tables))
+source('spellings', 'data', '\n'.join(tables))
 print('%d kinds, %d parts, %d bytes of rows, %d calls, depth %d, turns %d' % (len(kinds), len(parts), len(rows), len(entries), max(depth.values()), max(turn.values())))

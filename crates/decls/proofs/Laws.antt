@@ -19,7 +19,7 @@ use Rattle.language.specs.Trees.{Name, nameAt, numberAt}
 use Rattle.language.proofs.Claims.{claims, first, empty, follow}
 use Rattle.words.specs.Kinds.{numbered, spellings, kindCount}
 use Rattle.words.specs.Runs.{part}
-use Rattle.words.proofs.Parts.{part-length}
+use Rattle.spellings.proofs.Parts.{part-length}
 use Rattle.words.proofs.Only.{numberOf, number-back}
 use Rattle.descent_law.specs.Told.{Told}
 use Rattle.descent_law.specs.Declarations.{Declared, Maker, DeclarationsRow, DeclarationRow, MoreInputsRow, MoreBooleansRow, MoreIntegersRow, EndingRow, BooleanStartRow, BooleanValueRow, IntegerStartRow}

@@ -14,7 +14,8 @@ use Rattle.file_law.specs.Answer.{unless, firstNot}
 use Rattle.language.specs.Words.{bytes, same, firstOf}
 use Rattle.language.specs.Scan.{begins}
 use Rattle.language.proofs.Signs.{begins-take}
-use Rattle.words.proofs.Same.{same-self, same-true}
+use Rattle.spellings.proofs.Same.{same-self, same-true}
+use Rattle.spellings.proofs.Chain.{not-before}
 
 -- ---- by its number
 
@@ -35,15 +36,6 @@ unfolding nth
 nth-none [] j h = refl
 nth-none (s ∷ ss) zero h = absurd (omega arith)
 nth-none (s ∷ ss) (suc j) h = nth-none ss j (omega arith)
-
-pub not-before : (p : ℕ → Bool) (n i : ℕ) → i ≤ firstNot p n i
-unfolding firstNot
-not-before p zero i = omega arith
-not-before p (suc n) i = go (p i) (not-before p n (suc i))
-  where
-    go : (b : Bool) → suc i ≤ firstNot p n (suc i) → i ≤ unless b i (firstNot p n (suc i))
-    go true h = omega arith
-    go false h = omega arith
 
 -- the first of some strings that passes has the first number, counted from `base`, that does not miss
 pub first-number : (p : ℕ → Bool) (q : List ℕ → Bool) (ss : List String) (base : ℕ) → ((j : ℕ) → j < length ss → p (base + j) ≡ not (q (bytes (getD ss j ""))))

@@ -1,11 +1,6 @@
-pub mod Parts
-pub mod Same
+pub mod Values
 pub mod Outcomes
-pub mod Tested
-pub mod Entries
 pub mod First
-pub mod Chain
-pub mod Fitting
 pub mod Counted
 pub mod NameLaws
 pub mod NumberLaws

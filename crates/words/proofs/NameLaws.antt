@@ -17,13 +17,15 @@ use Rattle.language.specs.Scan.{wordLength}
 use Rattle.language.proofs.ScanLaws.{span-some, run-inside, name-length}
 use Rattle.words.specs.Kinds.{spellings, spelling, signCount, spellingCount, numbered}
 use Rattle.words.specs.Runs.{part, runEnd}
-use Rattle.words.specs.Search.{fitsAt, missesAt}
+use Rattle.spellings.specs.Search.{fitsAt, missesAt}
 use Rattle.words.specs.Meaning.{Stands}
 use Rattle.words.specs.declared.Next.the-variants.{Found, Stops}
-use Rattle.words.proofs.Parts.{part-length}
-use Rattle.words.proofs.First.{not-before, nth, nth-some, nth-none, first-number, noneOpens, skips}
+use Rattle.spellings.proofs.Parts.{part-length}
+use Rattle.spellings.proofs.Chain.{not-before}
+use Rattle.words.proofs.First.{nth, nth-some, nth-none, first-number, noneOpens, skips}
 use Rattle.words.proofs.Counted.{reserved-length, reserved-at, numbered-spelled}
-use Rattle.words.proofs.Outcomes.{opens, large-word, word-here}
+use Rattle.spellings.proofs.Parts.{opens}
+use Rattle.words.proofs.Outcomes.{large-word, word-here}
 
 letter-no-digit : (c : ℕ) → letter c ≡ true → digit c ≡ false
 unfolding letter digit

@@ -15,7 +15,8 @@ use Rattle.words.specs.Runs.{part, runEnd, cap}
 use Rattle.words.specs.Meaning.{Stands}
 use Rattle.words.specs.declared.Next.the-variants.{Found, Stops}
 use Rattle.words.proofs.First.{noneOpens, skips}
-use Rattle.words.proofs.Outcomes.{opens, large-word, word-here}
+use Rattle.spellings.proofs.Parts.{opens}
+use Rattle.words.proofs.Outcomes.{large-word, word-here}
 
 no-spelling-digit : noneOpens digit (signs ++ reserved) ≡ true
 unfolding noneOpens digit bytes signs reserved

@@ -17,8 +17,8 @@ use Rattle.words.specs.Meaning.{bytesOf, wordIn, meaning, worth, Sound, 
 use Rattle.words.specs.declared.Word.{Word}
 use Rattle.words.specs.declared.Next.{Next}
 use Rattle.words.specs.declared.Next.the-variants.{Found, Stops, Over}
-use Rattle.words.proofs.Parts.{part-length}
-use Rattle.words.proofs.Tested.{each}
+use Rattle.spellings.proofs.Parts.{part-length}
+use Rattle.spellings.proofs.Tested.{each}
 
 -- ---- a kind has one number
 

@@ -5,11 +5,10 @@ use mathlib.Core.Path.{_≡_, sym, _∙_, ap}
 use mathlib.Core.List.{List}
 use Prim.Native.Nat.{ℕ, _-_, _<_, _≤_}
 use native.Mathlib.Omega.{arith}
-use lib.ListN.{length, getD, drop}
-use lib.Seq.{getD-take}
+use lib.ListN.{length, drop}
 use Rattle.language.specs.Words.{inBlanks, kindOf, tooLarge, Kind}
 use Rattle.language.specs.Scan.{wordLength, found, stops, nextAt, pastBlanks, nextWord}
-use Rattle.language.proofs.ScanLaws.{first-byte, next-over, next-stops, next-large, next-found}
+use Rattle.language.proofs.ScanLaws.{next-over, next-stops, next-large, next-found}
 use Rattle.words.specs.Kinds.{numbered, kindCount}
 use Rattle.words.specs.Runs.{part, runEnd}
 use Rattle.words.specs.Meaning.{worth, Holds, Stands, Answers}
@@ -17,10 +16,6 @@ use Rattle.words.specs.declared.Next.{Next}
 use Rattle.words.specs.declared.Next.the-variants.{Found, Stops, Over}
 
 module _ (s : List ℕ) (at : ℕ) (h : at < length s) where
-  pub opens : (e : ℕ) → at < e → getD (part s at e) 0 0 ≡ getD s at 0
-  unfolding part
-  opens e g = getD-take (e - at) (drop at s) 0 0 (omega arith) ∙ first-byte s at
-
   halts : nextAt at (drop at s) ≡ stops at → Stands s at (Stops at)
   halts e = record { says = sym e; holds = (omega arith, h) }
 

@@ -17,7 +17,7 @@ use Rattle.language.proofs.ScanLaws.{sign-length}
 use Rattle.language.proofs.Signs.{taken, fits, sign-plain}
 use Rattle.words.specs.Kinds.{spelling, signCount}
 use Rattle.words.specs.Runs.{part}
-use Rattle.words.specs.Search.{fitsAt, missesAt}
+use Rattle.spellings.specs.Search.{fitsAt, missesAt}
 use Rattle.words.specs.Meaning.{Stands}
 use Rattle.words.specs.declared.Next.the-variants.{Found, Stops}
 use Rattle.words.proofs.First.{nth, nth-some, nth-none, first-number, first-passes, first-same}

@@ -16,7 +16,7 @@ use Rattle.words.specs.declared.Next.{Next}
 use Rattle.words.specs.declared.Next.the-variants.{Found, Stops, Over}
 use Rattle.words.specs.declared.Stop.{Stop}
 use Rattle.words.specs.declared.Stop.the-variants.{At, None}
-use Rattle.words.proofs.Parts.{part-length}
+use Rattle.spellings.proofs.Parts.{part-length}
 
 -- what a caller may count on, of the word that was found
 pub sound : {s : List ℕ} {from : ℕ} {r : Next} {w : Word} → Answers s from r → r ≡ Found w → Sound s from w

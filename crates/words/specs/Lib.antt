@@ -1,5 +1,4 @@
 pub mod Kinds
 pub mod Runs
-pub mod Search
 pub mod Meaning
 pub mod Met

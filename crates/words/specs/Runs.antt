@@ -2,13 +2,10 @@
 -- Assumes nothing.
 use mathlib.Core.Bool.{Bool}
 use mathlib.Core.List.{List}
-use Prim.Native.Nat.{ℕ, _+_, _-_, min}
-use lib.ListN.{take, drop}
+use Prim.Native.Nat.{ℕ, _+_, min}
+use lib.ListN.{drop}
 use Rattle.language.specs.Scan.{span}
-
--- the bytes of a text from a place to another
-unfoldable pub part : List ℕ → ℕ → ℕ → List ℕ
-part s from to = take (to - from) (drop from s)
+unfoldable pub use Rattle.spellings.specs.Part.{part}
 
 -- the end of the run that starts at a place
 abbrev pub runEnd : (ℕ → ℕ → Bool) → List ℕ → ℕ → ℕ

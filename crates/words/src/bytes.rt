@@ -3,6 +3,7 @@ ghost use mathlib.Core.Path.{_≡_};
 ghost use Prim.Native.Nat.{_+_, _<_};
 ghost use lib.ListN.{length, getD};
 ghost use Rattle.language.specs.Words.{blank, letter, digit, inName};
+use spellings::bytes;
 
 pub fn is_blank(c: u8) -> bool
     ensures { λ r. ⌜ r ≡ blank c ⌝ }
@@ -43,16 +44,6 @@ pub fn is_digit(c: u8) -> bool
     c <= b'9'
 }
 
-// The byte at i, or 0 where there is none.
-pub fn byte_at(s: &[u8], i: usize) -> u8
-    ensures { λ r. ⌜ r ≡ getD (now (s .entry)) i 0 ⌝ }
-{
-    if i < s.len() {
-        return s[i];
-    }
-    0
-}
-
 // Whether a name goes on at i.
 pub fn in_name(s: &[u8], i: usize) -> bool
     requires { ⌜ i < length (now s) ⌝ }
@@ -69,18 +60,11 @@ pub fn in_name(s: &[u8], i: usize) -> bool
         return true;
     }
     if c == b'-' {
-        let d = byte_at(s, i + 1);
+        let d = bytes::byte_at(s, i + 1);
         if is_letter(d) {
             return true;
         }
         return is_digit(d);
     }
     false
-}
-
-// A byte of a table as an index.
-pub fn wide(x: u8) -> usize
-    ensures { λ r. ⌜ r ≡ x ⌝ }
-{
-    x as usize
 }

@@ -11,8 +11,6 @@ ghost use Rattle.words.specs.Meaning.{Stands, Answers, stopOf};
 mod bytes;
 pub mod kinds;
 mod scan;
-mod spellings;
-mod table;
 
 // A word: its kind by number (`kinds`), its place, the place behind it, and a number's value.
 pub struct Word {
@@ -41,8 +39,8 @@ fn name_at(s: &[u8], at: usize) -> Next
     ensures { λ r. ⌜ Stands (now (s .entry)) at r ⌝ }
 {
     let end = scan::name_end(s, at);
-    let k = table::reserved(s, at, end);
-    if k < table::SPELLINGS {
+    let k = spellings::reserved(s, at, end);
+    if k < spellings::SPELLINGS {
         return Next::Found(Word {
             kind: 2 + k as u8,
             start: at,
@@ -84,12 +82,12 @@ fn sign_at(s: &[u8], at: usize) -> Next
     requires { ⌜ (at < length (now s)) × (letter (getD (now s) at 0) ≡ false) × (digit (getD (now s) at 0) ≡ false) ⌝ }
     ensures { λ r. ⌜ Stands (now (s .entry)) at r ⌝ }
 {
-    let k = table::sign(s, at);
-    if k < table::SIGNS {
+    let k = spellings::sign(s, at);
+    if k < spellings::SIGNS {
         return Next::Found(Word {
             kind: 2 + k as u8,
             start: at,
-            end: at + table::sign_length(k),
+            end: at + spellings::sign_length(k),
             value: 0,
         });
     }
@@ -155,5 +153,5 @@ pub fn same_name(s: &[u8], a: usize, b: usize, c: usize, d: usize) -> bool
     if scan::size(n, a, b) != scan::size(n, c, d) {
         return false;
     }
-    scan::stands(s, a, s, c, d)
+    spellings::bytes::stands(s, a, s, c, d)
 }

@@ -1,9 +1,8 @@
-// Parts of a text: where a run ends, what digits come to, whether one part stands in another text.
+// Parts of a text: where a run ends, what digits come to.
 ghost use mathlib.Core.Path.{_≡_};
 ghost use Prim.Native.Nat.{_+_, _-_, _*_, _<_, _≤_, min};
 ghost use lib.ListN.{length, drop};
 ghost use Rattle.language.specs.Words.{inBlanks, inNumber, inName, valueOf};
-ghost use Rattle.language.specs.Scan.{begins};
 ghost use Rattle.words.specs.Runs.{part, runEnd, cap};
 use crate::bytes;
 
@@ -82,28 +81,6 @@ pub fn value(s: &[u8], a: usize, e: usize) -> u32
         i += 1;
     }
     v
-}
-
-// Whether s goes on at `at` with the bytes of t from b to f.
-pub fn stands(s: &[u8], at: usize, t: &[u8], b: usize, f: usize) -> bool
-    ensures { λ r. ⌜ r ≡ begins (drop at (now (s .entry))) (part (now (t .entry)) b f) ⌝ }
-{
-    let mut i = at;
-    let mut j = b;
-    while j < f {
-        if t.len() <= j {
-            return true;
-        }
-        if s.len() <= i {
-            return false;
-        }
-        if s[i] != t[j] {
-            return false;
-        }
-        i += 1;
-        j += 1;
-    }
-    true
 }
 
 // How many bytes there are from a to b in a text of n.

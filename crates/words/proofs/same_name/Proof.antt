@@ -2,7 +2,7 @@
 -- Assumes nothing.
 use mathlib.Core.Path.{sym, _∙_}
 use borrow.Author.Needs.{needs}
-use Rattle.words.proofs.Same.{parts-differ, parts-stand}
+use Rattle.spellings.proofs.Same.{parts-differ, parts-stand}
 use Rattle.words.proofs.same_name.Statement.{statement}
 use Rattle.words.proofs.same_name.Tie as tie
 

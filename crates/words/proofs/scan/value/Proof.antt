@@ -5,7 +5,7 @@ use Prim.Native.Nat.{_-_, _≤_}
 use native.Mathlib.Omega.{arith}
 use Rattle.language.specs.Words.{valueFrom, valueOf}
 use Rattle.words.specs.Runs.{part, cap}
-use Rattle.words.proofs.Parts.{value-on, value-over}
+use Rattle.words.proofs.Values.{value-on, value-over}
 use Rattle.words.proofs.scan.value.Statement.{statement}
 use Rattle.words.proofs.scan.value.Tie as tie
 

@@ -1,0 +1,83 @@
+-- `spellings::sign_from` meets its contract: what begins with another byte is left out, and does not fit.
+-- Assumes nothing.
+use mathlib.Core.Path.{_∙_}
+use Prim.Native.Nat.{_-_}
+use native.Mathlib.Omega.{arith}
+use borrow.Author.Needs.{needs}
+use lib.ListN.{getD}
+use Rattle.file_law.specs.Answer.{firstNot}
+use Rattle.spellings.specs.Spelled.{signCount}
+use Rattle.spellings.specs.Search.{missesAt}
+use Rattle.spellings.proofs.Fitting.{misses, next-sign, other-sign, sign-over}
+use Rattle.spellings.proofs.Chain.{Along, along-start, along-on, along-falls, along-here}
+use Rattle.spellings.proofs.sign_from.Statement.{statement}
+use Rattle.spellings.proofs.sign_from.Tie as tie
+
+abbrev Inv-loop : tie.InvT-loop
+Inv-loop next seconds s at f k₀ k = Along (missesAt s at at) (getD s at 0) 0 signCount (firstNot (missesAt s at at) (signCount - 0) 0) k
+
+abbrev μ-loop : tie.MeasureT-loop
+μ-loop next seconds s at f k₀ k = signCount - k
+
+loop-holds : tie.Need-loop-holds Inv-loop μ-loop
+loop-holds c =
+    let o = c .before in
+    let a = o .args in
+    along-start (missesAt (a .s .now) (a .at) (a .at)) (getD (a .s .now) (a .at) 0) 0 signCount (other-sign (a .s .now) (a .at) (o .pre .2)) (a .f) (omega arith) (o .pre .3)
+
+sign-fits-requires : tie.Need-sign-fits-requires Inv-loop μ-loop
+sign-fits-requires c κs =
+    let l = c .before in
+    let o = c .before .before .before in
+    (o .pre .1, c .loop-test .taken, o .pre .2, l .loop .inv .opens (omega arith))
+
+returns : tie.Need-returns Inv-loop μ-loop
+returns c =
+    let l = c .before .before .before in
+    let o = l .before .before in
+    let a = o .args in
+    along-here (missesAt (a .s .now) (a .at) (a .at)) (getD (a .s .now) (a .at) 0) 0 signCount (other-sign (a .s .now) (a .at) (o .pre .2)) (l .loop .inv) (omega arith) (misses (a .s .now) (a .at) _ (l .loop .k) (c .before .sign-fits .ensures) (c .if1 .taken))
+
+element-copy-out-wide : tie.Need-element-copy-out-wide Inv-loop μ-loop
+element-copy-out-wide c =
+    let l = c .before .before .before in
+    omega (arith, l .loop .inv .above, l .before .before .pre .0 .long)
+
+wide-requires : tie.Need-wide-requires Inv-loop μ-loop
+wide-requires c κs = search needs
+
+loop-less : tie.Need-loop-less Inv-loop μ-loop
+loop-less c =
+    let l = c .before .before .before .before .before in
+    let o = l .before .before in
+    let a = o .args in
+    along-falls (missesAt (a .s .now) (a .at) (a .at)) (getD (a .s .now) (a .at) 0) 0 signCount (other-sign (a .s .now) (a .at) (o .pre .2)) (l .loop .inv) _ (omega arith) (c .wide .ensures ∙ o .pre .0 .told (l .loop .k) (omega arith) ∙ next-sign (l .loop .k))
+
+loop-again : tie.Need-loop-again Inv-loop μ-loop
+loop-again c =
+    let l = c .before .before .before .before .before in
+    let o = l .before .before in
+    let a = o .args in
+    along-on (missesAt (a .s .now) (a .at) (a .at)) (getD (a .s .now) (a .at) 0) 0 signCount (other-sign (a .s .now) (a .at) (o .pre .2)) (l .loop .inv) _ (omega arith) (c .wide .ensures ∙ o .pre .0 .told (l .loop .k) (omega arith) ∙ next-sign (l .loop .k)) (misses (a .s .now) (a .at) _ (l .loop .k) (c .before .before .before .sign-fits .ensures) (c .before .before .if1 .left))
+
+returns-2 : tie.Need-returns-2 Inv-loop μ-loop
+returns-2 c =
+    let l = c .before in
+    let o = l .before .before in
+    let a = o .args in
+    sign-over (a .s .now) (a .at) (o .pre .2) (l .loop .inv) (c .loop-test .left)
+
+pub sign-from-spec : {M : Type 1} → statement M
+sign-from-spec =
+    tie.close
+    (tie.spec
+    Inv-loop
+    μ-loop
+    loop-holds
+    sign-fits-requires
+    returns
+    element-copy-out-wide
+    wide-requires
+    loop-less
+    loop-again
+    returns-2)

@@ -1,0 +1,3 @@
+pub mod Spelled
+pub mod Part
+pub mod Search
