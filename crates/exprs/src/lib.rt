@@ -82,7 +82,7 @@ pub fn expr(
     }
 }
 
-// An operand, and those that operators of this strength join to it, from left to right.
+// An operand, and those that operators of this strength join to it, from left to right; p is where the next operator would stand.
 fn between(
     s: &[u8],
     count: u16,
@@ -96,6 +96,7 @@ fn between(
     ensures { λ r. ⌜ Came (lookIn (now (s .entry)) (beside (now (t .entry)) .names) count) (now (s .entry)) tier levels first notes (now (t .entry)) (now (t .exit)) r ⌝ }
 {
     let mut left = expr(s, count, t, tier + 1, first, notes, levels);
+    let mut p = left.word.place;
     loop {
         let w = left.word;
         let n = left.notes;
@@ -103,9 +104,10 @@ fn between(
             return left;
         }
         let v = hand::word_from(s, w.next);
-        let m = marks::counted(n, w.place);
+        let m = marks::counted(n, p);
         let right = expr(s, count, t, tier + 1, v, m, levels);
-        left = leaves::joined(t, w, left, right);
+        left = leaves::joined(t, w.kind, p, left, right);
+        p = left.word.place;
     }
 }
 

@@ -127,30 +127,30 @@ pub fn behind(word: Here, g: Got) -> Got
     }
 }
 
-// An operator between two operands.
-pub fn joined(t: &mut [u8], op: Here, a: Got, b: Got) -> Got
-    ensures { λ r. ⌜ (r .word ≡ b .word) × ((u : List ℕ) → sumOf r (now (t .exit)) ≡ joinSum (op .kind) (op .place) (sumOf a u) (sumOf b (now (t .entry)))) ⌝ }
+// An operator at p between two operands.
+pub fn joined(t: &mut [u8], kind: u8, p: u16, a: Got, b: Got) -> Got
+    ensures { λ r. ⌜ (r .word ≡ b .word) × ((u : List ℕ) → sumOf r (now (t .exit)) ≡ joinSum kind p (sumOf a u) (sumOf b (now (t .entry)))) ⌝ }
 {
     let w = b.word;
     let m = b.notes;
     let l = a.notes;
-    let size = operators::size(op.kind, a.size, b.size);
-    let fine = operators::fine(op.kind, a.truth, b.truth);
+    let size = operators::size(kind, a.size, b.size);
+    let fine = operators::fine(kind, a.truth, b.truth);
     put_part(
         t,
         l.parts,
-        operators::group(op.kind),
-        operators::order(op.kind),
-        op.place,
+        operators::group(kind),
+        operators::order(kind),
+        p,
         a.root,
         b.root,
     );
-    let n = marks::at_seven(m, !fine, op.place);
+    let n = marks::at_seven(m, !fine, p);
     Got {
         word: w,
-        notes: marks::at_ten(n, size > 2147483647, op.place),
+        notes: marks::at_ten(n, size > 2147483647, p),
         root: l.parts,
-        truth: op.kind < 21,
+        truth: kind < 21,
         size,
         looks: a.looks | b.looks,
     }

@@ -1,6 +1,6 @@
 -- `exprs::expr`, `exprs::between` and `exprs::operand` meet their contracts: one law at each way on. 16 for each level left, and two for each strength above, fall with each call; the text left falls with each operator.
 -- Assumes nothing.
-use mathlib.Core.Path.{sym, _∙_, ap}
+use mathlib.Core.Path.{_≡_, refl, sym, _∙_, ap}
 use Prim.Native.Nat.{_-_, _*_, _+_}
 use native.Mathlib.Omega.{arith}
 use borrow.Author.Needs.{needs}
@@ -66,10 +66,10 @@ abbrev between-calls : ℕ → between-lts.Claims
 between-calls t = (expr-below t, expr.Post, strength-of-reads.Asked, strength-of-reads.Learnt, word-from-reads.Asked, word-from-reads.Learnt, counted-reads.Asked, counted-reads.Learnt, joined-reads.Asked, joined-reads.Learnt)
 
 abbrev between-Inv-loop : between-lts.InvT-loop
-between-Inv-loop s count t₀ tier levels left₀ t left = Going (lookIn s (beside t₀ .names) count) s tier levels left₀ t₀ left t
+between-Inv-loop s count t₀ tier levels left₀ p₀ t left p = Going (lookIn s (beside t₀ .names) count) s tier levels left₀ t₀ left t × (p ≡ left .word .place)
 
 abbrev between-μ-loop : between-lts.MeasureT-loop
-between-μ-loop s count t₀ tier levels left₀ t left = length s - left .word .place
+between-μ-loop s count t₀ tier levels left₀ p₀ t left p = length s - left .word .place
 
 between-add-expr : (t : ℕ) → between-lts.Need-add-expr (between-calls t) (between-at t) between.Post between-Inv-loop between-μ-loop
 between-add-expr t c = omega (arith, c .before .before .before .pre .1 .0 .low)
@@ -78,19 +78,19 @@ between-expr-requires : (t : ℕ) → between-lts.Need-expr-requires (between-ca
 between-expr-requires t c κs = (omega (arith, c .before .before .before .pre .0, (between-low (c .before .before .before .args .tier) (c .before .before .before .pre .1 .1))), record { near = c .before .before .before .pre .1 .0 .near; listed = c .before .before .before .pre .1 .0 .listed; low = omega (arith, (between-low (c .before .before .before .args .tier) (c .before .before .before .pre .1 .1))); few = c .before .before .before .pre .1 .0 .few })
 
 between-loop-holds : (t : ℕ) → between-lts.Need-loop-holds (between-calls t) (between-at t) between.Post between-Inv-loop between-μ-loop
-between-loop-holds t c = between-start (rw (← c .before .before .expr .ensures .kept) at (c .before .before .expr .ensures))
+between-loop-holds t c = (between-start (rw (← c .before .before .expr .ensures .kept) at (c .before .before .expr .ensures)), refl)
 
 between-strength-of-requires : (t : ℕ) → between-lts.Need-strength-of-requires (between-calls t) (between-at t) between.Post between-Inv-loop between-μ-loop
 between-strength-of-requires t c κs = search needs
 
 between-same-length : (t : ℕ) → between-lts.Need-same-length (between-calls t) (between-at t) between.Post between-Inv-loop between-μ-loop
-between-same-length t c = came-long ((between-ends (between-low (c .before .before .before .before .before .before .before .before .before .before .before .args .tier) (c .before .before .before .before .before .before .before .before .before .before .before .pre .1 .1)) (c .before .before .before .before .before .before .before .before .before .before .before .pre .1 .1) (rw (c .before .strength-of .ensures) at (c .if1 .taken)) (c .before .before .before .before .before .before .before .expr .ensures) (rw (c .before .before .before .before .before .before .before .expr .ensures .kept) at (c .before .before .before .before .loop .inv))))
+between-same-length t c = came-long ((between-ends (between-low (c .before .before .before .before .before .before .before .before .before .before .before .args .tier) (c .before .before .before .before .before .before .before .before .before .before .before .pre .1 .1)) (c .before .before .before .before .before .before .before .before .before .before .before .pre .1 .1) (rw (c .before .strength-of .ensures) at (c .if1 .taken)) (c .before .before .before .before .before .before .before .expr .ensures) (rw (c .before .before .before .before .before .before .before .expr .ensures .kept) at (c .before .before .before .before .loop .inv .0))))
 
 between-returns : (t : ℕ) → between-lts.Need-returns (between-calls t) (between-at t) between.Post between-Inv-loop between-μ-loop
-between-returns t c = between-ends (between-low (c .before .before .before .before .before .before .before .before .before .before .before .args .tier) (c .before .before .before .before .before .before .before .before .before .before .before .pre .1 .1)) (c .before .before .before .before .before .before .before .before .before .before .before .pre .1 .1) (rw (c .before .strength-of .ensures) at (c .if1 .taken)) (c .before .before .before .before .before .before .before .expr .ensures) (rw (c .before .before .before .before .before .before .before .expr .ensures .kept) at (c .before .before .before .before .loop .inv))
+between-returns t c = between-ends (between-low (c .before .before .before .before .before .before .before .before .before .before .before .args .tier) (c .before .before .before .before .before .before .before .before .before .before .before .pre .1 .1)) (c .before .before .before .before .before .before .before .before .before .before .before .pre .1 .1) (rw (c .before .strength-of .ensures) at (c .if1 .taken)) (c .before .before .before .before .before .before .before .expr .ensures) (rw (c .before .before .before .before .before .before .before .expr .ensures .kept) at (c .before .before .before .before .loop .inv .0))
 
 between-word-from-requires : (t : ℕ) → between-lts.Need-word-from-requires (between-calls t) (between-at t) between.Post between-Inv-loop between-μ-loop
-between-word-from-requires t c κs = (c .before .before .before .before .before .before .before .before .before .before .before .pre .1 .0 .near .short, c .before .before .before .before .loop .inv .near .inside)
+between-word-from-requires t c κs = (c .before .before .before .before .before .before .before .before .before .before .before .pre .1 .0 .near .short, c .before .before .before .before .loop .inv .0 .near .inside)
 
 between-counted-requires : (t : ℕ) → between-lts.Need-counted-requires (between-calls t) (between-at t) between.Post between-Inv-loop between-μ-loop
 between-counted-requires t c κs = search needs
@@ -99,16 +99,16 @@ between-add-expr-2 : (t : ℕ) → between-lts.Need-add-expr-2 (between-calls t)
 between-add-expr-2 t c = omega (arith, c .before .before .before .before .before .before .before .before .before .before .before .before .before .before .pre .1 .0 .low)
 
 between-expr-requires-2 : (t : ℕ) → between-lts.Need-expr-requires-2 (between-calls t) (between-at t) between.Post between-Inv-loop between-μ-loop
-between-expr-requires-2 t c κs = (omega (arith, c .before .before .before .before .before .before .before .before .before .before .before .before .before .before .pre .0, (between-low (c .before .before .before .before .before .before .before .before .before .before .before .before .before .before .args .tier) (c .before .before .before .before .before .before .before .before .before .before .before .before .before .before .pre .1 .1))), record { near = c .before .before .word-from .ensures .near; listed = rw (c .before .before .before .before .before .before .before .loop .inv .kept ∙ c .before .before .before .before .before .before .before .before .before .before .expr .ensures .kept) (c .before .before .before .before .before .before .before .before .before .before .before .before .before .before .pre .1 .0 .listed); low = omega (arith, (between-low (c .before .before .before .before .before .before .before .before .before .before .before .before .before .before .args .tier) (c .before .before .before .before .before .before .before .before .before .before .before .before .before .before .pre .1 .1))); few = c .before .before .before .before .before .before .before .before .before .before .before .before .before .before .pre .1 .0 .few })
+between-expr-requires-2 t c κs = (omega (arith, c .before .before .before .before .before .before .before .before .before .before .before .before .before .before .pre .0, (between-low (c .before .before .before .before .before .before .before .before .before .before .before .before .before .before .args .tier) (c .before .before .before .before .before .before .before .before .before .before .before .before .before .before .pre .1 .1))), record { near = c .before .before .word-from .ensures .near; listed = rw (c .before .before .before .before .before .before .before .loop .inv .0 .kept ∙ c .before .before .before .before .before .before .before .before .before .before .expr .ensures .kept) (c .before .before .before .before .before .before .before .before .before .before .before .before .before .before .pre .1 .0 .listed); low = omega (arith, (between-low (c .before .before .before .before .before .before .before .before .before .before .before .before .before .before .args .tier) (c .before .before .before .before .before .before .before .before .before .before .before .before .before .before .pre .1 .1))); few = c .before .before .before .before .before .before .before .before .before .before .before .before .before .before .pre .1 .0 .few })
 
 between-joined-requires : (t : ℕ) → between-lts.Need-joined-requires (between-calls t) (between-at t) between.Post between-Inv-loop between-μ-loop
 between-joined-requires t c κs = search needs
 
 between-loop-less : (t : ℕ) → between-lts.Need-loop-less (between-calls t) (between-at t) between.Post between-Inv-loop between-μ-loop
-between-loop-less t c = omega (arith, c .before .before .before .before .before .before .before .before .before .before .before .before .before .before .loop .inv .near .more (strength-known (c .before .before .before .before .before .before .before .before .before .before .before .before .before .before .loop .left .word .kind) (c .before .before .before .before .before .before .before .before .before .before .before .before .before .before .before .before .before .before .before .before .before .args .tier) (between-low (c .before .before .before .before .before .before .before .before .before .before .before .before .before .before .before .before .before .before .before .before .before .args .tier) (c .before .before .before .before .before .before .before .before .before .before .before .before .before .before .before .before .before .before .before .before .before .pre .1 .1)) (sym (c .before .before .before .before .before .before .before .before .before .before .before .strength-of .ensures) ∙ c .before .before .before .before .before .before .before .before .before .before .if1 .left)), c .before .before .before .before .before .before .before .before .before .word-from .ensures .later, c .before .before .before .before .before .before .expr2 .ensures .later, c .before .before .before .before .before .before .expr2 .ensures .near .on, c .before .before .before .before .before .before .expr2 .ensures .near .inside, ap (λ (w : Here). w .place) (c .before .before .joined .ensures .0))
+between-loop-less t c = omega (arith, c .before .before .before .before .before .before .before .before .before .before .before .before .before .before .loop .inv .0 .near .more (strength-known (c .before .before .before .before .before .before .before .before .before .before .before .before .before .before .loop .left .word .kind) (c .before .before .before .before .before .before .before .before .before .before .before .before .before .before .before .before .before .before .before .before .before .args .tier) (between-low (c .before .before .before .before .before .before .before .before .before .before .before .before .before .before .before .before .before .before .before .before .before .args .tier) (c .before .before .before .before .before .before .before .before .before .before .before .before .before .before .before .before .before .before .before .before .before .pre .1 .1)) (sym (c .before .before .before .before .before .before .before .before .before .before .before .strength-of .ensures) ∙ c .before .before .before .before .before .before .before .before .before .before .if1 .left)), c .before .before .before .before .before .before .before .before .before .word-from .ensures .later, c .before .before .before .before .before .before .expr2 .ensures .later, c .before .before .before .before .before .before .expr2 .ensures .near .on, c .before .before .before .before .before .before .expr2 .ensures .near .inside, ap (λ (w : Here). w .place) (c .before .before .joined .ensures .0))
 
 between-loop-again : (t : ℕ) → between-lts.Need-loop-again (between-calls t) (between-at t) between.Post between-Inv-loop between-μ-loop
-between-loop-again t c = between-on (between-low (c .before .before .before .before .before .before .before .before .before .before .before .before .before .before .before .before .before .before .before .before .before .args .tier) (c .before .before .before .before .before .before .before .before .before .before .before .before .before .before .before .before .before .before .before .before .before .pre .1 .1)) (sym (c .before .before .before .before .before .before .before .before .before .before .before .strength-of .ensures) ∙ c .before .before .before .before .before .before .before .before .before .before .if1 .left) (c .before .before .before .before .before .before .before .before .before .word-from .ensures) (rw (c .before .before .before .before .before .before .before .before .counted .ensures, c .before .before .before .before .before .before .before .before .before .before .before .before .before .before .loop .inv .kept) at (c .before .before .before .before .before .before .expr2 .ensures)) (c .before .before .joined .ensures .0) (c .before .before .joined .ensures .1) (c .before .before .before .before .before .before .before .before .before .before .before .before .before .before .loop .inv)
+between-loop-again t c = (between-on (between-low (c .before .before .before .before .before .before .before .before .before .before .before .before .before .before .before .before .before .before .before .before .before .args .tier) (c .before .before .before .before .before .before .before .before .before .before .before .before .before .before .before .before .before .before .before .before .before .pre .1 .1)) (sym (c .before .before .before .before .before .before .before .before .before .before .before .strength-of .ensures) ∙ c .before .before .before .before .before .before .before .before .before .before .if1 .left) (c .before .before .before .before .before .before .before .before .before .word-from .ensures) (rw (c .before .before .before .before .before .before .before .before .counted .ensures, c .before .before .before .before .before .before .before .before .before .before .before .before .before .before .loop .inv .1, c .before .before .before .before .before .before .before .before .before .before .before .before .before .before .loop .inv .0 .kept) at (c .before .before .before .before .before .before .expr2 .ensures)) (c .before .before .joined .ensures .0) (rw (c .before .before .before .before .before .before .before .before .before .before .before .before .before .before .loop .inv .1) at (c .before .before .joined .ensures .1)) (c .before .before .before .before .before .before .before .before .before .before .before .before .before .before .loop .inv .0), refl)
 
 abbrev expr-calls : ℕ → expr-lts.Claims
 expr-calls t = (strength-at-reads.Asked, strength-at-reads.Learnt, expr-below t, expr.Post, nothing-reads.Asked, nothing-reads.Learnt, word-from-reads.Asked, word-from-reads.Learnt, counted-reads.Asked, counted-reads.Learnt, negated-reads.Asked, negated-reads.Learnt, between-below t, between.Post, operand-below t, operand.Post)

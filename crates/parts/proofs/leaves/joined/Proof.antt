@@ -32,7 +32,11 @@ same-length c = search needs
 
 returns : tie.Need-returns
 unfolding joinSum truthAt
-returns c = (refl, λ u. rw (c .before .before .before .at-ten .ensures, c .before .before .before .before .at-seven .ensures, c .before .before .before .before .before .before .before .before .before .before .before .fine .ensures, c .before .before .before .before .before .before .before .put-part .ensures, c .before .before .before .before .before .before .before .before .before .group .ensures, c .before .before .before .before .before .before .before .before .order .ensures, c .before .before .before .before .before .before .before .before .before .before .before .before .size .ensures) refl)
+returns c =
+    let ten = c .before .before in
+    let put = ten .before .before .before .before in
+    let fine = put .before .before .before .before in
+    (refl, λ u. rw (ten .at-ten .ensures, ten .before .at-seven .ensures, fine .fine .ensures, put .put-part .ensures, put .before .before .group .ensures, put .before .order .ensures, fine .before .size .ensures) refl)
 
 pub joined-spec : {M : Type 1} → statement M
 joined-spec =
