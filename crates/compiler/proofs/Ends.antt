@@ -3,9 +3,8 @@
 use mathlib.Core.Path.{_≡_, refl, sym, ap, _∙_, subst}
 use mathlib.Core.List.{List, _++_}
 use Prim.Native.Nat.{ℕ, _+_, _-_, _*_, _/_, _%_, _^_, _<_, _≤_}
-use lib.ListN.{length, getD, take, drop, replicate, length-drop, length-replicate, getD-replicate}
+use lib.ListN.{length, getD, take, drop, length-drop}
 use lib.Pow.{pow-mono}
-use lib.Seq.{ext-getD}
 use native.Mathlib.Omega.{arith}
 use Rattle.reach_law.specs.Machine.{Machine}
 use Rattle.reach_law.specs.Count.{TooMany}
@@ -170,12 +169,6 @@ module _ {source tree : List ℕ} {task : Task} {k o : ℕ} (g : Known source tr
 -- only its length counts
 pub ready-for : {source work buffer : List ℕ} {room : ℕ} (other : List ℕ) → length other ≡ length work → Ready (lent source room work buffer) → Ready (lent source room other buffer)
 ready-for other e r = record { room = r .room; work = omega (arith, r .work) }
-
--- all zero
-pub wiped : (l k : List ℕ) → length l ≡ length k → ((e : ℕ) → e < length k → getD l e 0 ≡ 0) → l ≡ replicate (length k) 0
-wiped l k e z =
-    ext-getD 0 l (replicate (length k) 0) (e ∙ sym (length-replicate (length k) 0))
-    (λ i h. z i (omega arith) ∙ sym (getD-replicate (length k) i 0 0 (omega arith)))
 
 -- the part behind the tree
 pub behind-long : (at : ℕ) (work : List ℕ) → at ≤ 16384 → length work ≤ 16384 + length (drop at work)

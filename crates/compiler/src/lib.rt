@@ -1,7 +1,7 @@
 // The compile call: what is refused, the search, the file, and the work area all zero at the end.
 ghost use mathlib.Core.Path.{_≡_};
 ghost use Prim.Native.Nat.{_*_, _^_, _≤_};
-ghost use lib.ListN.{length, replicate};
+ghost use lib.ListN.{length};
 ghost use Rattle.stored.specs.Stored.{Stored};
 ghost use Rattle.language.specs.Promise.{Compiles, Ready};
 ghost use Rattle.compiler.specs.Answered.{lent, ended, EndsSo};
@@ -26,17 +26,6 @@ fn refused(number: u32) -> Compiled
     ensures { λ r. ⌜ r ≡ Compiled.Refused number 0 ⌝ }
 {
     Compiled::Refused { number, place: 0 }
-}
-
-// The whole work area, zeroed.
-fn wipe(work: &mut [u8])
-    ensures { λ _. ⌜ now (work .exit) ≡ replicate (length (now (work .entry))) 0 ⌝ }
-{
-    let mut j: usize = 0;
-    while j < work.len() {
-        work[j] = 0;
-        j += 1;
-    }
 }
 
 // The states and the file of a program that is stored, with so many inputs and outputs; the work area is free from `at` on.
@@ -119,7 +108,7 @@ pub fn compile(source: &[u8], room: u32, work: &mut [u8], file: &mut [u8]) -> Co
         return refused(2);
     }
     let r = answer(source, room, work, file);
-    wipe(work);
+    wiped::wipe(work);
     r
 }
 

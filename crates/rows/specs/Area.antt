@@ -1,6 +1,7 @@
 -- How what a search found lies in the lent bytes: the index, a row to a state, and the next numbers.
 -- Assumes nothing.
 use mathlib.Core.Path.{_≡_}
+use mathlib.Core.Bool.{Bool, true, false}
 use mathlib.Core.List.{List}
 use Prim.Native.Nat.{ℕ, _+_, _*_, _/_, _%_, _<_, _≤_}
 use lib.ListN.{length, getD}
@@ -57,6 +58,11 @@ hashOf s =
     + getD (s .entries) 2 empty .place * 52711 + getD (s .entries) 3 empty .place * 17389
     + getD (s .entries) 0 empty .left * 60493 + getD (s .entries) 1 empty .left * 35969)
     / 64 % homes
+
+-- whether row i is s
+abbrev pub SameRow : List ℕ → ℕ → State → Bool → Type 0
+SameRow l i s true = rowIn l i ≡ s
+SameRow l i s false = ¬ (rowIn l i ≡ s)
 
 -- no byte but those from `from` up to `to` changes
 pub record Changed (from to : ℕ) (l k : List ℕ) : Type 0 where

@@ -1,3 +1,2 @@
 pub mod Area
-pub mod Indexed
 pub mod Nexts

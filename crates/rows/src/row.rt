@@ -2,8 +2,7 @@
 ghost use mathlib.Core.Path.{_≡_};
 ghost use Prim.Native.Nat.{_+_, _*_, _≤_, _<_};
 ghost use lib.ListN.{length};
-ghost use Rattle.rows.specs.Area.{rowAt, rowIn, Changed};
-ghost use Rattle.rows.specs.Indexed.{SameRow};
+ghost use Rattle.rows.specs.Area.{rowAt, rowIn, SameRow, Changed};
 use crate::bytes;
 use clock::State;
 use runs::Entry;

@@ -19,9 +19,10 @@ use Rattle.meaning.specs.States.{State}
 use Rattle.clock.specs.Step.{stateFrom, Canon}
 use Rattle.clock.specs.declared.State as code
 use Rattle.rows.specs.Area.{homes, slotIn, rowIn, nextIn, hashOf}
-use Rattle.rows.specs.Indexed.{Indexed, Free, Added}
+use Rattle.index.specs.Indexed.{Indexed, Free, Added}
 use Rattle.rows.specs.Nexts.{NextPut}
-use Rattle.rows.proofs.Nexts.{row-same, indexed-same}
+use Rattle.rows.proofs.Nexts.{row-same}
+use Rattle.index.proofs.Kept.{indexed-same}
 use Rattle.search.specs.Going.{statesIn, Sized, Going, InRow, Found}
 use Rattle.search.proofs.States.{states-length, states-at, states-kept, states-grown, not-one}
 

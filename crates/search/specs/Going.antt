@@ -13,7 +13,7 @@ use Rattle.meaning.specs.States.{State}
 use Rattle.clock.specs.Step.{stateFrom, Canon}
 use Rattle.clock.specs.declared.State as code
 use Rattle.rows.specs.Area.{mostRows, nextsAt, rowIn, nextIn}
-use Rattle.rows.specs.Indexed.{Indexed}
+use Rattle.index.specs.Indexed.{Indexed}
 use Rattle.search.specs.declared.Turn.{Turn}
 use Rattle.search.specs.declared.Turn.the-variants.{Goes, Over}
 

@@ -10,9 +10,8 @@ ghost use Rattle.search.specs.Machine.{machineIn};
 ghost use Rattle.search.specs.Going.{Sized, Going, InRow, RowDone, Searched};
 ghost use Rattle.search.specs.Masks.{Earlier, StepDone};
 use clock::State;
-use rows::Look;
+use index::Look;
 use rows::bytes;
-use rows::index;
 use rows::next;
 use rows::row;
 

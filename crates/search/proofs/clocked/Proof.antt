@@ -1,8 +1,8 @@
 use native.Mathlib.Omega.{arith}
 use borrow.Author.Needs.{needs}
 use mathlib.Core.Path.{refl, _∙_, subst}
-use Rattle.rows.specs.Indexed.{Looked, Free}
-use Rattle.rows.specs.declared.Look.the-variants as look
+use Rattle.index.specs.Indexed.{Looked, Free}
+use Rattle.index.specs.declared.Look.the-variants as look
 use Rattle.search.proofs.Turns.{known-done, over-done, new-done}
 use Rattle.search.proofs.Holds.{step-holds, step-unseen}
 use Rattle.search.proofs.clocked.Statement.{statement}

@@ -2,7 +2,7 @@ use borrow.Author.Needs.{needs}
 use Prim.Native.Nat.{ℕ}
 use mathlib.Core.Path.{subst}
 use Rattle.rows.specs.Nexts.{NextPut}
-use Rattle.rows.specs.declared.Look.the-variants as look
+use Rattle.index.specs.declared.Look.the-variants as look
 use Rattle.search.proofs.copy_next.Statement.{statement}
 use Rattle.search.proofs.copy_next.Tie as tie
 

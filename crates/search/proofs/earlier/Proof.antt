@@ -2,7 +2,7 @@ use native.Mathlib.Omega.{arith}
 use Prim.Native.Nat.{ℕ, _-_, _≤_}
 use mathlib.Core.Path.{_≡_, subst}
 use lib.Bits.{bitAnd, and-le-l}
-use Rattle.rows.specs.declared.Look.the-variants as look
+use Rattle.index.specs.declared.Look.the-variants as look
 use Rattle.search.proofs.earlier.Statement.{statement}
 use Rattle.search.proofs.earlier.Tie as tie
 

@@ -4,7 +4,7 @@ use Prim.Native.Nat.{_-_, _<_, _≤_}
 use mathlib.Core.Path.{_≡_, refl, _∙_, subst}
 use lib.ListN.{length, getD, length-set}
 use Rattle.clock.specs.Step.{stateFrom}
-use Rattle.rows.specs.declared.Look.the-variants as look
+use Rattle.index.specs.declared.Look.the-variants as look
 use Rattle.search.specs.Machine.{machineIn}
 use Rattle.search.specs.Going.{InRow}
 use Rattle.search.specs.Masks.{Masks, StepDone}

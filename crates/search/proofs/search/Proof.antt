@@ -3,7 +3,7 @@ use borrow.Author.Needs.{needs}
 use Prim.Native.Nat.{_-_}
 use mathlib.Core.Path.{_≡_, refl, _∙_, subst}
 use lib.ListN.{length}
-use Rattle.rows.specs.declared.Look.the-variants as look
+use Rattle.index.specs.declared.Look.the-variants as look
 use Rattle.search.specs.Machine.{machineIn}
 use Rattle.search.specs.Going.{Going, RowDone}
 use Rattle.search.specs.declared.Turn.{Turn}

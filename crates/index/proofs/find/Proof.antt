@@ -1,10 +1,10 @@
 use native.Mathlib.Omega.{arith}
 use Prim.Native.Nat.{_-_}
 use mathlib.Core.Path.{subst}
-use Rattle.rows.specs.Indexed.{SameRow}
-use Rattle.rows.proofs.Walks.{Walked, walk-start, not-last, in-rows, walk-on, walk-done}
-use Rattle.rows.proofs.index.find.Statement.{statement}
-use Rattle.rows.proofs.index.find.Tie as tie
+use Rattle.rows.specs.Area.{SameRow}
+use Rattle.index.proofs.Walks.{Walked, walk-start, not-last, in-rows, walk-on, walk-done}
+use Rattle.index.proofs.find.Statement.{statement}
+use Rattle.index.proofs.find.Tie as tie
 
 abbrev Inv-loop : tie.InvT-loop
 Inv-loop area n s j₀ v₀ j v = Walked area n s j v

@@ -9,10 +9,10 @@ use native.Mathlib.Omega.{arith}
 use native.Mathlib.Nat.{eq-or-lt-of-le}
 use Rattle.file_law.specs.Bytes.{word2, bytesOf}
 use Rattle.clock.specs.declared.State.{State}
 use Rattle.rows.specs.Area.{homes, slots, mostRows, rowsAt, nextsAt, slotIn, rowAt, rowIn, nextAt, nextIn, hashOf, Changed}
-use Rattle.rows.specs.Indexed.{Stands, Indexed, Free, Added}
+use Rattle.index.specs.Indexed.{Stands, Indexed, Free, Added}
 use Rattle.rows.proofs.Changes.{one-below, lt-or-ge, word2-before, word2-behind}
 use Rattle.rows.proofs.Rows.{row-before, row-behind}
 
 -- ---- a walk
 

@@ -3,10 +3,10 @@ use Prim.Native.Nat.{ℕ, _-_, _<_, _≤_}
 use mathlib.Core.Path.{_≡_, refl, _∙_}
 use lib.ListN.{length, getD, set, length-set}
 use lib.Seq.{getD-set-same, getD-set-other}
 use Rattle.rows.proofs.Changes.{one-below}
-use Rattle.rows.proofs.Nexts.{no-index}
-use Rattle.rows.proofs.index.clear.Statement.{statement}
-use Rattle.rows.proofs.index.clear.Tie as tie
+use Rattle.index.proofs.Kept.{no-index}
+use Rattle.index.proofs.clear.Statement.{statement}
+use Rattle.index.proofs.clear.Tie as tie
 
 abbrev Inv-loop : tie.InvT-loop
 Inv-loop area₀ j₀ area j = (j ≤ 2560) × (length area ≡ length area₀) × ((e : ℕ) → e < j → getD area e 0 ≡ 0)

@@ -1,7 +1,7 @@
 use borrow.Author.Needs.{needs}
-use Rattle.rows.proofs.Walks.{added}
-use Rattle.rows.proofs.index.add.Statement.{statement}
-use Rattle.rows.proofs.index.add.Tie as tie
+use Rattle.index.proofs.Walks.{added}
+use Rattle.index.proofs.add.Statement.{statement}
+use Rattle.index.proofs.add.Tie as tie
 
 pub add-spec : {M : Type 1} → statement M
 add-spec =

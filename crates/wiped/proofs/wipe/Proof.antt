@@ -1,12 +1,14 @@
+-- `wiped::wipe` meets its contract: after j turns the first j bytes are zero.
+-- Assumes nothing.
 use native.Mathlib.Omega.{arith}
 use Prim.Native.Nat.{ℕ, _-_, _<_, _≤_}
 use mathlib.Core.Path.{_≡_, refl, _∙_}
 use lib.ListN.{length, getD, set, length-set}
 use lib.Seq.{getD-set-same, getD-set-other}
 use Rattle.rows.proofs.Changes.{one-below}
-use Rattle.compiler.proofs.Ends.{wiped}
-use Rattle.compiler.proofs.wipe.Statement.{statement}
-use Rattle.compiler.proofs.wipe.Tie as tie
+use Rattle.wiped.proofs.Zero.{all-zero}
+use Rattle.wiped.proofs.wipe.Statement.{statement}
+use Rattle.wiped.proofs.wipe.Tie as tie
 
 abbrev Inv-loop : tie.InvT-loop
 Inv-loop work₀ j₀ work j = (j ≤ length work₀) × (length work ≡ length work₀) × ((e : ℕ) → e < j → getD work e 0 ≡ 0)
@@ -30,4 +32,4 @@ wipe-spec =
           (getD-set-same (L .work) (L .j) 0 0 (c .loop-test .taken)),
     ))
     (λ c. c .before .loop .inv .1)
-    (λ c. let L = c .before .loop in wiped (L .work) (c .before .before .args .work .now) (L .inv .1) (λ e h. L .inv .2 e (omega (arith, L .inv .1, c .loop-test .left)))))
+    (λ c. let L = c .before .loop in all-zero (L .work) (c .before .before .args .work .now) (L .inv .1) (λ e h. L .inv .2 e (omega (arith, L .inv .1, c .loop-test .left)))))

@@ -1,14 +1,13 @@
 -- The index: each state is found from its hash on, and the walk to it meets no empty slot.
 -- Assumes nothing.
 use mathlib.Core.Path.{_≡_}
-use mathlib.Core.Bool.{Bool, true, false}
 use mathlib.Core.List.{List}
 use Prim.Native.Nat.{ℕ, _+_, _<_, _≤_}
 use lib.ListN.{length}
 use Rattle.rows.specs.Area.{homes, slots, mostRows, nextsAt, slotIn, rowIn, nextIn, hashOf}
 use Rattle.clock.specs.declared.State.{State}
-use Rattle.rows.specs.declared.Look.{Look}
-use Rattle.rows.specs.declared.Look.the-variants.{Known, New}
+use Rattle.index.specs.declared.Look.{Look}
+use Rattle.index.specs.declared.Look.the-variants.{Known, New}
 
 -- state i stands in a slot from h on, with no empty slot between
 pub record Stands (l : List ℕ) (h i : ℕ) : Type 0 where
@@ -39,11 +38,6 @@ pub record Free (l : List ℕ) (n : ℕ) (s : State) (j : ℕ) : Type 0 where
 abbrev pub Looked : List ℕ → ℕ → State → Look → Type 0
 Looked l n s (Known i) = (i < n) × (rowIn l i ≡ s)
 Looked l n s (New j) = Free l n s j
-
--- whether row i is s
-abbrev pub SameRow : List ℕ → ℕ → State → Bool → Type 0
-SameRow l i s true = rowIn l i ≡ s
-SameRow l i s false = ¬ (rowIn l i ≡ s)
 
 -- s is row n now, the rows before it and the next numbers are as they were
 pub record Added (l : List ℕ) (n : ℕ) (s : State) (k : List ℕ) : Type 0 where

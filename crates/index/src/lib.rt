@@ -1,13 +1,18 @@
-// The index: a state is looked for from its hash on, slot by slot, up to the first empty one.
+// The index of a search's states, in lent bytes: a state is looked for from its hash on, slot by slot, up to the first empty one.
 ghost use mathlib.Core.Path.{_≡_};
 ghost use Prim.Native.Nat.{_*_, _≤_, _<_};
 ghost use lib.ListN.{length};
 ghost use Rattle.rows.specs.Area.{homes, mostRows, nextsAt, hashOf};
-ghost use Rattle.rows.specs.Indexed.{Indexed, Free, Looked, Added};
-use crate::Look;
-use crate::bytes;
-use crate::row;
+ghost use Rattle.index.specs.Indexed.{Indexed, Free, Looked, Added};
 use clock::State;
+use rows::bytes;
+use rows::row;
+
+// A state's number, or the slot for it.
+pub enum Look {
+    Known(usize),
+    New(usize),
+}
 
 const INDEX: usize = 2560;
 

@@ -1,8 +1,8 @@
 use native.Mathlib.Omega.{arith}
 use mathlib.Core.Path.{refl}
 use Rattle.rows.proofs.Changes.{small}
-use Rattle.rows.proofs.index.scaled.Statement.{statement}
-use Rattle.rows.proofs.index.scaled.Tie as tie
+use Rattle.index.proofs.scaled.Statement.{statement}
+use Rattle.index.proofs.scaled.Tie as tie
 
 pub scaled-spec : {M : Type 1} → statement M
 scaled-spec =

@@ -2,9 +2,9 @@ use native.Mathlib.Omega.{arith}
 use borrow.Author.Needs.{needs}
 use Prim.Native.Nat.{ℕ, _*_}
 use mathlib.Core.Path.{ap, _∙_}
 use Rattle.rows.specs.Area.{hashOf}
-use Rattle.rows.proofs.index.hash.Statement.{statement}
-use Rattle.rows.proofs.index.hash.Tie as tie
+use Rattle.index.proofs.hash.Statement.{statement}
+use Rattle.index.proofs.hash.Tie as tie
 
 pub hash-spec : {M : Type 1} → statement M
 unfolding hashOf
