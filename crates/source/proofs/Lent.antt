@@ -47,8 +47,8 @@ module _ (n : ℕ) (xs ys : List ℕ) (h : n ≤ length xs) where
   pub back-long : length ys ≡ length (drop n xs) → length back ≡ length xs
   back-long e = ap length back-is ∙ omega (arith, length-append (take n xs) ys, length-take-le n xs h, e, length-drop n xs)
 
-  pub listed-back : {s : List ℕ} {r : Read} → Came s (take (length xs - n) (drop n xs)) ys r → Came s (drop n xs) (drop n back) r × (take n back ≡ take n xs) × (length back ≡ length xs)
-  listed-back {s} {r} c = let whole : Came s (drop n xs) ys r = rw (whole-rest n xs) at c in (rw back-rest whole, back-front, back-long (whole .long))
+  pub listed-back : {s : List ℕ} {r : Read} → Came s (take (length xs - n) (drop n xs)) ys r → Listed n s xs back r
+  listed-back {s} {r} c = let whole : Came s (drop n xs) ys r = rw (whole-rest n xs) at c in record { came = rw back-rest whole; front = back-front; long = back-long (whole .long) }
 
 pub tree-at : (t : List ℕ) (q : ℕ) → q < treeBytes → getD (treeOf t) q 0 ≡ getD t q 0
 unfolding treeOf
@@ -63,9 +63,9 @@ unfolding beside
 name-at t j = getD-drop treeBytes t j 0
 
 -- the area cleared, the names listed, the activities filled in
-pub prepared : {s t a b u : List ℕ} {r : Read} → 32768 ≤ length t → length a ≡ length t → ((i : ℕ) → i < 32768 → getD a i 0 ≡ 0) → Listed s a b r
+pub prepared : {s t a b u : List ℕ} {r : Read} → 32768 ≤ length t → length a ≡ length t → ((i : ℕ) → i < 32768 → getD a i 0 ≡ 0) → Listed treeBytes s a b r
     → FilledBehind s b u (r .procedures) → Prepared s t u r
-unfolding treeOf
+unfolding treeOf beside
 prepared {s} {t} {a} {b} {u} {r} room same zeros x y =
     record {
       before = beside a .names;
@@ -75,7 +75,7 @@ prepared {s} {t} {a} {b} {u} {r} room same zeros x y =
       came = x .came;
       fills = y .rows .fills;
       filled = y .rows .filled;
-      zeros = λ q h. sym (tree-at u q (omega (arith, h))) ∙ ap (λ (l : List ℕ). getD l q 0) (y .tree ∙ x .tree) ∙ tree-at a q (omega (arith, h)) ∙ zeros q (omega (arith, h));
+      zeros = λ q h. sym (tree-at u q (omega (arith, h))) ∙ ap (λ (l : List ℕ). getD l q 0) (y .tree ∙ x .front) ∙ tree-at a q (omega (arith, h)) ∙ zeros q (omega (arith, h));
       long = y .long ∙ x .long ∙ same;
     }
 

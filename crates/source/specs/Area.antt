@@ -3,7 +3,7 @@
 use mathlib.Core.Path.{_≡_}
 use mathlib.Core.List.{List}
 use Prim.Native.Nat.{ℕ, _≤_, _<_}
-use lib.ListN.{length, getD, take}
+use lib.ListN.{length, getD, take, drop}
 use Rattle.meaning.specs.Unexpanded.{Procedure}
 use Rattle.decls.specs.declared.Read.{Read}
 use Rattle.decls.specs.Came.{Came}
@@ -14,13 +14,13 @@ use Rattle.parts.specs.Beside.{treeBytes, beside}
 unfoldable pub treeOf : List ℕ → List ℕ
 treeOf t = take treeBytes t
 
--- the declared names and procedures of a text lie behind the tree, which stays as it was
-pub record Listed (s t u : List ℕ) (r : Read) : Type 0 where
-  pub came : Came s (beside t .names) (beside u .names) r
-  pub tree : treeOf u ≡ treeOf t
+-- the declared names and procedures of a text lie behind so many bytes, which stay as they were
+pub record Listed (at : ℕ) (s t u : List ℕ) (r : Read) : Type 0 where
+  pub came : Came s (drop at t) (drop at u) r
+  pub front : take at u ≡ take at t
   pub long : length u ≡ length t
 
--- .. where all was zero before, with the activities of procedures filled in
+-- .. behind the tree, where all was zero before, with the activities of procedures filled in
 pub record Prepared (s t u : List ℕ) (r : Read) : Type 0 where
   pub before : List ℕ
   pub listed : List ℕ

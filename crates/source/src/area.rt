@@ -1,8 +1,8 @@
 // The lent area before the body of a text is read: all of it cleared, the declared names and procedures behind the tree.
 ghost use mathlib.Core.Path.{_≡_};
 ghost use Prim.Native.Nat.{ℕ, _+_, _≤_, _<_};
-ghost use lib.ListN.{length, getD, take, drop};
-ghost use Rattle.decls.specs.Came.{Came};
+ghost use lib.ListN.{length, getD};
+ghost use Rattle.parts.specs.Beside.{treeBytes};
 ghost use Rattle.source.specs.Area.{Listed, Prepared};
 use decls::Read;
 
@@ -21,7 +21,7 @@ pub fn clear(work: &mut [u8])
 // The declared names and procedures, in the bytes from a place on.
 fn from(s: &[u8], work: &mut [u8], at: usize) -> Read
     requires { ⌜ (length (now s) ≤ 8192) × (at + 16384 ≤ length (now work)) ⌝ }
-    ensures { λ r. ⌜ Came (now (s .entry)) (drop at (now (work .entry))) (drop at (now (work .exit))) r × (take at (now (work .exit)) ≡ take at (now (work .entry))) × (length (now (work .exit)) ≡ length (now (work .entry))) ⌝ }
+    ensures { λ r. ⌜ Listed at (now (s .entry)) (now (work .entry)) (now (work .exit)) r ⌝ }
 {
     decls::declared(s, &mut work[at..])
 }
@@ -29,7 +29,7 @@ fn from(s: &[u8], work: &mut [u8], at: usize) -> Read
 // The declared names and procedures, behind the tree.
 fn names(s: &[u8], work: &mut [u8]) -> Read
     requires { ⌜ (length (now s) ≤ 8192) × (32768 ≤ length (now work)) ⌝ }
-    ensures { λ r. ⌜ Listed (now (s .entry)) (now (work .entry)) (now (work .exit)) r ⌝ }
+    ensures { λ r. ⌜ Listed treeBytes (now (s .entry)) (now (work .entry)) (now (work .exit)) r ⌝ }
 {
     from(s, work, 16384)
 }

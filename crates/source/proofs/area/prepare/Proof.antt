@@ -17,13 +17,17 @@ fill-requires c κs =
     let k₁ = c .before .before .before in
     let k₂ = k₁ .before .before .before .before in
     let k₃ = k₂ .before .before .before .before in
-    (k₃ .pre .0, omega (arith, k₁ .names .ensures .long, k₂ .clear .ensures .0, k₃ .pre .1), k₁ .names .ensures .came .rows)
+    (k₃ .pre .0, omega (arith, k₁ .names .ensures .long, k₂ .clear .ensures .0, k₃ .pre .1), omega (arith, k₁ .names .ensures .came .rows))
 
 same-length : tie.Need-same-length
 same-length c = search needs
 
 returns : tie.Need-returns
-returns c = let k = c .before .before in prepared (c .before .before .before .before .before .before .before .before .before .before .before .before .before .before .pre .1) (c .before .before .before .before .before .before .before .before .before .before .clear .ensures .0) (c .before .before .before .before .before .before .before .before .before .before .clear .ensures .1) (c .before .before .before .before .before .before .names .ensures) (k .fill .ensures)
+returns c =
+    let k₁ = c .before .before in
+    let k₂ = k₁ .before .before .before .before in
+    let k₃ = k₂ .before .before .before .before in
+    prepared (k₃ .before .before .before .before .pre .1) (k₃ .clear .ensures .0) (k₃ .clear .ensures .1) (k₂ .names .ensures) (k₁ .fill .ensures)
 
 pub prepare-spec : {M : Type 1} → statement M
 prepare-spec = tie.close (tie.spec clear-requires names-requires fill-requires same-length returns)
