@@ -75,7 +75,7 @@ pub record RowCame (s z : List ℕ) (count : ℕ) (under : Under) (k : ℕ) (l b
   pub on : On s h t u (r .word)
   pub told : (o : Scope s z count under) (ws : List Word) → Stands s h ws → (f : ℕ) (v : Command) (rest : List Word) → StatementRow f k ws v rest row → Tells s rest (oneIn (senseOf count o) (around k) v l b (walked m t)) u r
 
--- a call of these actuals stands there
+-- a call of these actuals stands there, a statement that begins with a name
 pub record CallAt (s : List ℕ) (h : Here) (v : Name) (ts : List Term) (rest : List Word) : Type 0 where
   pub fuel : ℕ
   pub levels : ℕ
@@ -87,6 +87,10 @@ pub record CallAt (s : List ℕ) (h : Here) (v : Name) (ts : List Term) (rest : 
   pub stands : Stands s h (word ∷ opens ∷ tail)
   pub told : Told fuel Actuals levels tail ts (closes ∷ rest)
   pub named : v ≡ nameAt word
+  pub row-fuel : ℕ
+  pub row-levels : ℕ
+  pub row-few : row-levels ≤ mostLevels
+  pub row : StatementRow row-fuel row-levels (word ∷ opens ∷ tail) (call v ts) rest 5
 
 -- a call inside another, with whatever levels open around
 pub record CallCame (s z : List ℕ) (count : ℕ) (under : Under) (l b : Bool) (h : Here) (m : Marks) (t u : List ℕ) (r : Read) : Type 0 where
