@@ -192,12 +192,12 @@ module _ {look : List ℕ → Option Variable} {s : List ℕ} {n k : ℕ} where
       told : (ws : List Language.Word) → Stands s h ws → (f : ℕ) (v : Expr Name) (rest : List Language.Word) → Told f (Tier n) k ws v rest → Tells look s v rest m t u left
       told ws st f v rest x = let (e, i, p, row) = tier-told f n k ws v rest x in go ws st e v rest (getElem? binding n) i how row
 
-  pub between-on : {t₀ u u₁ u₂ : List ℕ} {left₀ left right next : Got} {h₁ : Here} → n < 6 → strengthOf (left .word .kind) ≡ n → Begins s (left .word .next) h₁
+  between-step : {t₀ u u₁ u₂ : List ℕ} {left₀ left right next : Got} {h₁ : Here} → n < 6 → strengthOf (left .word .kind) ≡ n → Begins s (left .word .next) h₁
       → Came look s (n + 1) k h₁ (counted (left .notes) (left .word .place)) u u₁ right
       → next .word ≡ right .word → ((x : List ℕ) → sumOf next u₂ ≡ joinSum (left .word .kind) (left .word .place) (sumOf left x) (sumOf right u₁))
       → Going look s n k left₀ t₀ left u → Going look s n k left₀ t₀ next u₂
   unfolding joinSum
-  between-on {t₀} {u} {u₁} {u₂} {left₀} {left} {right} {next} {h₁} low here begins came w sums going =
+  between-step {t₀} {u} {u₁} {u₂} {left₀} {left} {right} {next} {h₁} low here begins came w sums going =
       record {
         near = rw w (came .near);
         later = rw w (omega (arith, going .later, going .near .on, begins .later, came .later));
@@ -228,6 +228,15 @@ module _ {look : List ℕ → Option Variable} {s : List ℕ} {n k : ℕ} where
           let z = going .going mid st f g rest x m t e q in
           let (e₂, i₂, p, row) = further-told (z .fuel) n k (z .mid) (z .more) rest (z .told) in
           step g e rest m t z e₂ i₂ p row
+
+  -- .. where the operator at p is counted in m
+  pub between-on : {t₀ u u₁ u₂ : List ℕ} {left₀ left right next : Got} {h₁ : Here} {p : ℕ} {m : Notes} → n < 6 → strengthOf (left .word .kind) ≡ n → Begins s (left .word .next) h₁
+      → p ≡ left .word .place → m ≡ counted (left .notes) p → Came look s (n + 1) k h₁ m u u₁ right
+      → next .word ≡ right .word → ((x : List ℕ) → sumOf next u₂ ≡ joinSum (left .word .kind) p (sumOf left x) (sumOf right u₁))
+      → Going look s n k left₀ t₀ left u → Going look s n k left₀ t₀ next u₂
+  between-on {t₀} {u} {u₁} {u₂} {left₀} {left} {right} {next} {h₁} {p} {m} low here begins at is came w sums going =
+      between-step low here begins (subst (λ (j : Notes). Came look s (n + 1) k h₁ j u u₁ right) (is ∙ ap (counted (left .notes)) at) came) w
+      (λ x. sums x ∙ ap (λ (q : ℕ). joinSum (left .word .kind) q (sumOf left x) (sumOf right u₁)) at) going
 
 -- ---- operands
 
