@@ -230,11 +230,10 @@ module _ {look : List ℕ → Option Variable} {s : List ℕ} {n k : ℕ} where
           step g e rest m t z e₂ i₂ p row
 
   -- .. where the operator at p is counted in m
-  pub between-on : {t₀ u u₁ u₂ : List ℕ} {left₀ left right next : Got} {h₁ : Here} {p : ℕ} {m : Notes} → n < 6 → strengthOf (left .word .kind) ≡ n → Begins s (left .word .next) h₁
-      → p ≡ left .word .place → m ≡ counted (left .notes) p → Came look s (n + 1) k h₁ m u u₁ right
-      → next .word ≡ right .word → ((x : List ℕ) → sumOf next u₂ ≡ joinSum (left .word .kind) p (sumOf left x) (sumOf right u₁))
-      → Going look s n k left₀ t₀ left u → Going look s n k left₀ t₀ next u₂
-  between-on {t₀} {u} {u₁} {u₂} {left₀} {left} {right} {next} {h₁} {p} {m} low here begins at is came w sums going =
+  pub between-on : {t₀ u u₁ u₂ : List ℕ} {left₀ left right next : Got} {h₁ : Here} (p : ℕ) {m : Notes} → Going look s n k left₀ t₀ left u → n < 6 → strengthOf (left .word .kind) ≡ n → Begins s (left .word .next) h₁ → p ≡ left .word .place
+      → Came look s (n + 1) k h₁ m u u₁ right → m ≡ counted (left .notes) p
+      → next .word ≡ right .word → ((x : List ℕ) → sumOf next u₂ ≡ joinSum (left .word .kind) p (sumOf left x) (sumOf right u₁)) → Going look s n k left₀ t₀ next u₂
+  between-on {t₀} {u} {u₁} {u₂} {left₀} {left} {right} {next} {h₁} p {m} going low here begins at came is w sums =
       between-step low here begins (subst (λ (j : Notes). Came look s (n + 1) k h₁ j u u₁ right) (is ∙ ap (counted (left .notes)) at) came) w
       (λ x. sums x ∙ ap (λ (q : ℕ). joinSum (left .word .kind) q (sumOf left x) (sumOf right u₁)) at) going
 

@@ -108,7 +108,7 @@ between-loop-less : (t : ℕ) → between-lts.Need-loop-less (between-calls t) (
 between-loop-less t c = omega (arith, c .before .before .before .before .before .before .before .before .before .before .before .before .before .before .loop .inv .0 .near .more (strength-known (c .before .before .before .before .before .before .before .before .before .before .before .before .before .before .loop .left .word .kind) (c .before .before .before .before .before .before .before .before .before .before .before .before .before .before .before .before .before .before .before .before .before .args .tier) (between-low (c .before .before .before .before .before .before .before .before .before .before .before .before .before .before .before .before .before .before .before .before .before .args .tier) (c .before .before .before .before .before .before .before .before .before .before .before .before .before .before .before .before .before .before .before .before .before .pre .1 .1)) (sym (c .before .before .before .before .before .before .before .before .before .before .before .strength-of .ensures) ∙ c .before .before .before .before .before .before .before .before .before .before .if1 .left)), c .before .before .before .before .before .before .before .before .before .word-from .ensures .later, c .before .before .before .before .before .before .expr2 .ensures .later, c .before .before .before .before .before .before .expr2 .ensures .near .on, c .before .before .before .before .before .before .expr2 .ensures .near .inside, ap (λ (w : Here). w .place) (c .before .before .joined .ensures .0))
 
 between-loop-again : (t : ℕ) → between-lts.Need-loop-again (between-calls t) (between-at t) between.Post between-Inv-loop between-μ-loop
-between-loop-again t c = (between-on (between-low (c .before .before .before .before .before .before .before .before .before .before .before .before .before .before .before .before .before .before .before .before .before .args .tier) (c .before .before .before .before .before .before .before .before .before .before .before .before .before .before .before .before .before .before .before .before .before .pre .1 .1)) (sym (c .before .before .before .before .before .before .before .before .before .before .before .strength-of .ensures) ∙ c .before .before .before .before .before .before .before .before .before .before .if1 .left) (c .before .before .before .before .before .before .before .before .before .word-from .ensures) (c .before .before .before .before .before .before .before .before .before .before .before .before .before .before .loop .inv .1) (c .before .before .before .before .before .before .before .before .counted .ensures) (rw (c .before .before .before .before .before .before .before .before .before .before .before .before .before .before .loop .inv .0 .kept) at (c .before .before .before .before .before .before .expr2 .ensures)) (c .before .before .joined .ensures .0) (c .before .before .joined .ensures .1) (c .before .before .before .before .before .before .before .before .before .before .before .before .before .before .loop .inv .0), refl)
+between-loop-again t c = (between-on (c .before .before .before .before .before .before .before .before .before .before .before .before .before .before .loop .p) (c .before .before .before .before .before .before .before .before .before .before .before .before .before .before .loop .inv .0) (between-low (c .before .before .before .before .before .before .before .before .before .before .before .before .before .before .before .before .before .before .before .before .before .args .tier) (c .before .before .before .before .before .before .before .before .before .before .before .before .before .before .before .before .before .before .before .before .before .pre .1 .1)) (sym (c .before .before .before .before .before .before .before .before .before .before .before .strength-of .ensures) ∙ c .before .before .before .before .before .before .before .before .before .before .if1 .left) (c .before .before .before .before .before .before .before .before .before .word-from .ensures) (c .before .before .before .before .before .before .before .before .before .before .before .before .before .before .loop .inv .1) (rw (c .before .before .before .before .before .before .before .before .before .before .before .before .before .before .loop .inv .0 .kept) at (c .before .before .before .before .before .before .expr2 .ensures)) (c .before .before .before .before .before .before .before .before .counted .ensures) (c .before .before .joined .ensures .0) (c .before .before .joined .ensures .1), refl)
 
 abbrev expr-calls : ℕ → expr-lts.Claims
 expr-calls t = (strength-at-reads.Asked, strength-at-reads.Learnt, expr-below t, expr.Post, nothing-reads.Asked, nothing-reads.Learnt, word-from-reads.Asked, word-from-reads.Learnt, counted-reads.Asked, counted-reads.Learnt, negated-reads.Asked, negated-reads.Learnt, between-below t, between.Post, operand-below t, operand.Post)
