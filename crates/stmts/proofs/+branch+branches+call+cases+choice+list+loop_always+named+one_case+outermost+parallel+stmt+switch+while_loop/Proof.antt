@@ -70,7 +70,7 @@ use Rattle.items.proofs.noted.with_acts.Reads as with-acts-reads
 use Rattle.items.proofs.rows.is_plain.Reads as is-plain-reads
 use Rattle.items.proofs.rows.statement_row.Reads as statement-row-reads
 use Rattle.items.proofs.told.Reads as told-reads
-use Rattle.measure.proofs.measure.Reads as measure-reads
+use Rattle.gauge.proofs.measure.Reads as measure-reads
 use Rattle.plain.proofs.assign.Reads as assign-reads
 use Rattle.plain.proofs.plain.Reads as plain-reads
 use Rattle.plain.proofs.stays.passing.Reads as stays-passing-reads
@@ -778,7 +778,7 @@ outermost-sub-measure t c =
 outermost-measure-requires : (t : ℕ) → outermost-lts.Need-measure-requires (outermost-calls t) (outermost-at t) outermost.Post
 outermost-measure-requires t c κs =
     let k₁ = c .before .before .before .before in
-    k₁ .pre .1 .near
+    (k₁ .pre .1 .near, omega arith)
 
 outermost-passing-requires : (t : ℕ) → outermost-lts.Need-passing-requires (outermost-calls t) (outermost-at t) outermost.Post
 outermost-passing-requires t c κs = search needs
