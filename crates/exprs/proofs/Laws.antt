@@ -38,13 +38,20 @@ use Rattle.exprs.proofs.Chosen.{join-op}
 
 -- ---- sums
 
-not-sum : (look : List ℕ → Option Variable) (to : ℕ → ℕ) (bound : List (Bound Term)) (x : Term) (m : Notes) (t : List ℕ) (p : ℕ) → aroundSum m (sumUnder look to bound x (counted m (to p)) t) 7 (to p) true 0 ≡ sumUnder look to bound (not p x) m t
-unfolding sum baseTerm replaced
-not-sum look to bound x m t p = refl
+-- p is what is told of the place q, and m₁ the notes with one more node
+module _ (look : List ℕ → Option Variable) (to : ℕ → ℕ) (bound : List (Bound Term)) (m : Notes) (t : List ℕ) {p : ℕ} (q : ℕ) {m₁ : Notes} (e : p ≡ to q) (f : m₁ ≡ counted m p) where
+  around-sum : (x : Term) (code : ℕ) (b : Bool) (c : ℕ) → aroundSum m (sumUnder look to bound x m₁ t) code p b c ≡ aroundSum m (sumUnder look to bound x (counted m (to q)) t) code (to q) b c
+  around-sum x code b c =
+      ap (λ (n : Notes). aroundSum m (sumUnder look to bound x n t) code p b c) f
+      ∙ ap (λ (z : ℕ). aroundSum m (sumUnder look to bound x (counted m z) t) code z b c) e
 
-int-sum : (look : List ℕ → Option Variable) (to : ℕ → ℕ) (bound : List (Bound Term)) (x : Term) (m : Notes) (t : List ℕ) (p : ℕ) → aroundSum m (sumUnder look to bound x (counted m (to p)) t) 8 (to p) false 1 ≡ sumUnder look to bound (int p x) m t
-unfolding sum baseTerm replaced
-int-sum look to bound x m t p = refl
+  not-sum : (x : Term) → aroundSum m (sumUnder look to bound x m₁ t) 7 p true 0 ≡ sumUnder look to bound (not q x) m t
+  unfolding sum baseTerm replaced
+  not-sum x = around-sum x 7 true 0
+
+  int-sum : (x : Term) → aroundSum m (sumUnder look to bound x m₁ t) 8 p false 1 ≡ sumUnder look to bound (int q x) m t
+  unfolding sum baseTerm replaced
+  int-sum x = around-sum x 8 false 1
 
 parens-sum : (look : List ℕ → Option Variable) (to : ℕ → ℕ) (bound : List (Bound Term)) (x : Term) (m : Notes) (t : List ℕ) → sumUnder look to bound x m t ≡ sumUnder look to bound (parens x) m t
 unfolding baseTerm replaced
@@ -62,13 +69,14 @@ pub plain-long : {look : List ℕ → Option Variable} {to : ℕ → ℕ} {B : L
 unfolding beside
 plain-long came = same-size (came .kept)
 
-joined-sum : (look : List ℕ → Option Variable) (to : ℕ → ℕ) (bound : List (Bound Term)) (k : ℕ) (op : String) (p q : ℕ) (x y : Term) (m : Notes) (t : List ℕ) (a b : Sum) → numbered k ≡ the op → ¬ (strengthOf k ≡ 255) → p ≡ q
-    → a ≡ sumUnder look to bound x m t → b ≡ sumUnder look to bound y (counted (a .notes) (to p)) (a .bytes) → joinSum k (to p) a b ≡ sumUnder look to bound (joinedBy operators op q x y) m t
-joined-sum look to bound k op p q x y m t a b e g r f i =
-    ap (joinSum k (to p) a) i
-    ∙ ap (λ (z : Sum). joinSum k (to p) z (sumUnder look to bound y (counted (z .notes) (to p)) (z .bytes))) f
-    ∙ sym (join-op look to bound k op p x y m t e g)
-    ∙ ap (λ (z : ℕ). sumUnder look to bound (joinedBy operators op z x y) m t) r
+joined-sum : (look : List ℕ → Option Variable) (to : ℕ → ℕ) (bound : List (Bound Term)) (k : ℕ) (op : String) {p : ℕ} (q : ℕ) (x y : Term) (m : Notes) {m₁ : Notes} (t : List ℕ) (a b : Sum) → numbered k ≡ the op → ¬ (strengthOf k ≡ 255) → p ≡ to q → m₁ ≡ counted (a .notes) p
+    → a ≡ sumUnder look to bound x m t → b ≡ sumUnder look to bound y m₁ (a .bytes) → joinSum k p a b ≡ sumUnder look to bound (joinedBy operators op q x y) m t
+joined-sum look to bound k op {p} q x y m t a b e g told one f i =
+    ap (joinSum k p a) i
+    ∙ ap (λ (n : Notes). joinSum k p a (sumUnder look to bound y n (a .bytes))) one
+    ∙ ap (λ (z : Sum). joinSum k p z (sumUnder look to bound y (counted (z .notes) p) (z .bytes))) f
+    ∙ ap (λ (z : ℕ). joinSum k z (sumUnder look to bound x m t) (sumUnder look to bound y (counted (sumUnder look to bound x m t .notes) z) (sumUnder look to bound x m t .bytes))) told
+    ∙ sym (join-op look to bound k op q x y m t e g)
 
 -- ---- what is claimed of the term that is read
 
@@ -100,12 +108,12 @@ module _ {look : List ℕ → Option Variable} {to : ℕ → ℕ} {B : List (Bou
   before-deep low how yes-op none-left near w = came refl (tiers.before-deep low how yes-op none-left near w)
 
   -- .. with its operand
-  pub before-on : {op : ℕ} {h₁ : Here} {u₁ u : List ℕ} {g r : Got} → n < 6 → IsHow (getElem? binding n) (Before op) → h .kind ≡ op → Near s h → Begins s (h .next) h₁
-      → Came look to B s n (k - 1) h₁ (counted m (to (h .place))) t u₁ g → r .word ≡ g .word → sumOf r u ≡ aroundSum m (sumOf g u₁) 7 (to (h .place)) true 0 → Came look to B s n k h m t u r
+  pub before-on : {op : ℕ} {h₁ : Here} {u₁ u : List ℕ} {g r : Got} (p : ℕ) (m₁ : Notes) → n < 6 → IsHow (getElem? binding n) (Before op) → h .kind ≡ op → Near s h → Begins s (h .next) h₁ → p ≡ to (h .place) → m₁ ≡ counted m p
+      → Came look to B s n (k - 1) h₁ m₁ t u₁ g → r .word ≡ g .word → sumOf r u ≡ aroundSum m (sumOf g u₁) 7 p true 0 → Came look to B s n k h m t u r
   unfolding aroundSum
-  before-on {op} {h₁} {u₁} {u} {g} {r} low how yes-op near begins c w sums =
+  before-on {op} {h₁} {u₁} {u} {g} {r} p m₁ low how yes-op near begins told one c w sums =
       came (kept-of sums ∙ put-beside u₁ _ _ _ _ _ _ ∙ c .kept)
-      (tiers.before-on low how yes-op near begins (comes c) w (λ x e bound bd. sums ∙ ap (λ (y : Sum). aroundSum m y 7 (to (h .place)) true 0) (e bound bd) ∙ not-sum look to bound x m t (h .place)))
+      (tiers.before-on low how yes-op near begins (comes c) w (λ x e bound bd. sums ∙ ap (λ (y : Sum). aroundSum m y 7 p true 0) (e bound bd) ∙ not-sum look to bound m t (h .place) told one x))
 
 -- ---- operators between operands
 
@@ -124,18 +132,19 @@ module _ {look : List ℕ → Option Variable} {to : ℕ → ℕ} {B : List (Bou
       → Came look to B s (n + 1) k h m t t₀ left₀ → Going look to B s n k left₀ t₀ left u → Came look to B s n k h m t u left
   between-ends {h} {m} {t} low how other c going = came (going .kept ∙ c .kept) (tiers.between-ends low how other (comes c) (going .going m t))
 
-  pub between-on : {t₀ u u₁ u₂ : List ℕ} {left₀ left right next : Got} {h₁ : Here} → n < 6 → strengthOf (left .word .kind) ≡ n → Begins s (left .word .next) h₁
-      → Came look to B s (n + 1) k h₁ (counted (left .notes) (to (left .word .place))) u u₁ right
-      → next .word ≡ right .word → ((x : List ℕ) → sumOf next u₂ ≡ joinSum (left .word .kind) (to (left .word .place)) (sumOf left x) (sumOf right u₁))
+  -- p is what is told of the operator's place, and m₁ the notes with the operator counted
+  pub between-on : {t₀ u u₁ u₂ : List ℕ} {left₀ left right next : Got} {h₁ : Here} (p : ℕ) (m₁ : Notes) → n < 6 → strengthOf (left .word .kind) ≡ n → Begins s (left .word .next) h₁ → p ≡ to (left .word .place) → m₁ ≡ counted (left .notes) p
+      → Came look to B s (n + 1) k h₁ m₁ u u₁ right
+      → next .word ≡ right .word → ((x : List ℕ) → sumOf next u₂ ≡ joinSum (left .word .kind) p (sumOf left x) (sumOf right u₁))
       → Going look to B s n k left₀ t₀ left u → Going look to B s n k left₀ t₀ next u₂
   unfolding joinSum
-  between-on {t₀} {u} {u₁} {u₂} {left₀} {left} {right} {next} {h₁} low here begins c w sums going =
+  between-on {t₀} {u} {u₁} {u₂} {left₀} {left} {right} {next} {h₁} p m₁ low here begins told one c w sums going =
       record {
         near = rw w (c .near);
         later = rw w (omega (arith, going .later, going .near .on, begins .later, c .later));
         kept = kept-of (sums u) ∙ put-beside u₁ _ _ _ _ _ _ ∙ c .kept ∙ going .kept;
         going = λ m t. tiers.between-on low here begins (comes c) w
-            (λ op x y e f g bound bd. sums u ∙ joined-sum look to bound (left .word .kind) op (left .word .place) (left .word .place) x y m t (sumOf left u) (sumOf right u₁) e (strength-some (left .word .kind) n low here) refl (f bound bd) (g bound bd)) (going .going m t);
+            (λ op x y e f g bound bd. sums u ∙ joined-sum look to bound (left .word .kind) op (left .word .place) x y m t (sumOf left u) (sumOf right u₁) e (strength-some (left .word .kind) n low here) told one (f bound bd) (g bound bd)) (going .going m t);
       }
 
 -- ---- operands
@@ -151,12 +160,12 @@ module _ {look : List ℕ → Option Variable} {to : ℕ → ℕ} {B : List (Bou
       → Came look to B s 0 (k - 1) h₁ m t u g → Begins s (g .word .next) h₂ → r .word ≡ h₂ → ((x : List ℕ) → sumOf r x ≡ sumOf g x) → Came look to B s n k h m t u r
   operand-open {u} how e five near b₁ c b₂ w sums = came (c .kept) (tiers.operand-open how e five near b₁ (comes c) b₂ w (λ x q bound bd. sums u ∙ q bound bd ∙ parens-sum look to bound x m t))
 
-  pub operand-int : {u₁ u : List ℕ} {g r : Got} {h₁ h₂ h₃ : Here} {row : ℕ} → IsHow (getElem? binding n) Operand → row ≡ operandRow (h .kind) → ¬ (row < 4) → ¬ (row ≡ 5) → Near s h → Begins s (h .next) h₁ → Begins s (h₁ .next) h₂
-      → Came look to B s 0 (k - 1) h₂ (counted m (to (h .place))) t u₁ g → Begins s (g .word .next) h₃ → r .word ≡ h₃ → sumOf r u ≡ aroundSum m (sumOf g u₁) 8 (to (h .place)) false 1 → Came look to B s n k h m t u r
+  pub operand-int : {u₁ u : List ℕ} {g r : Got} {h₁ h₂ h₃ : Here} {row : ℕ} (p : ℕ) (m₁ : Notes) → IsHow (getElem? binding n) Operand → row ≡ operandRow (h .kind) → ¬ (row < 4) → ¬ (row ≡ 5) → Near s h → Begins s (h .next) h₁ → Begins s (h₁ .next) h₂ → p ≡ to (h .place) → m₁ ≡ counted m p
+      → Came look to B s 0 (k - 1) h₂ m₁ t u₁ g → Begins s (g .word .next) h₃ → r .word ≡ h₃ → sumOf r u ≡ aroundSum m (sumOf g u₁) 8 p false 1 → Came look to B s n k h m t u r
   unfolding aroundSum
-  operand-int {u₁} how e large five near b₁ b₂ c b₃ w sums =
+  operand-int {u₁} p m₁ how e large five near b₁ b₂ told one c b₃ w sums =
       came (kept-of sums ∙ put-beside u₁ _ _ _ _ _ _ ∙ c .kept)
-      (tiers.operand-int how e large five near b₁ b₂ (comes c) b₃ w (λ x q bound bd. sums ∙ ap (λ (y : Sum). aroundSum m y 8 (to (h .place)) false 1) (q bound bd) ∙ int-sum look to bound x m t (h .place)))
+      (tiers.operand-int how e large five near b₁ b₂ (comes c) b₃ w (λ x q bound bd. sums ∙ ap (λ (y : Sum). aroundSum m y 8 p false 1) (q bound bd) ∙ int-sum look to bound m t (h .place) told one x))
 
 -- ---- operands with no level
 

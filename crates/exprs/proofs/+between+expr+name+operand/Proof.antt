@@ -1,6 +1,6 @@
 -- `exprs::expr`, `exprs::between`, `exprs::operand` and `exprs::name` meet their contracts: one law at each way on. 1,024 for each open call, 16 for each level left, and two for each strength above, fall with each call; the text left falls with each operator.
 -- Assumes nothing.
-use mathlib.Core.Path.{sym, _∙_, ap}
+use mathlib.Core.Path.{_≡_, refl, sym, _∙_, ap}
 use Prim.Native.Nat.{ℕ, _<_, _-_, _*_, _+_}
 use native.Mathlib.Omega.{arith}
 use borrow.Author.Needs.{needs}
@@ -30,7 +30,6 @@ use Rattle.exprs.proofs.operand.Reads as operand
 use Rattle.exprs.proofs.operand.Kinds as operand-kinds
 use Rattle.exprs.proofs.+between+expr+name+operand.Lts-operand as operand-lts
 use Rattle.tiers.proofs.operand_row.Reads as operand-row-reads
-use Rattle.exprs.proofs.places.operator.Reads as operator-reads
 use Rattle.tiers.proofs.strength_of.Reads as strength-of-reads
 use Rattle.exprs.proofs.places.told.Reads as told-reads
 use Rattle.exprs.proofs.single.bit.Reads as bit-reads
@@ -87,13 +86,13 @@ abbrev operand-below : ℕ → In 2 operand-kinds.ps
 operand-below t = and 2 operand-kinds.ps (falls 2 operand-kinds.ps _<_ μ-operand t) operand.Pre
 
 abbrev between-calls : ℕ → between-lts.Claims
-between-calls t = (expr-below t, expr.Post, strength-of-reads.Asked, strength-of-reads.Learnt, word-from-reads.Asked, word-from-reads.Learnt, operator-reads.Asked, operator-reads.Learnt, counted-reads.Asked, counted-reads.Learnt, joined-reads.Asked, joined-reads.Learnt)
+between-calls t = (expr-below t, expr.Post, strength-of-reads.Asked, strength-of-reads.Learnt, word-from-reads.Asked, word-from-reads.Learnt, told-reads.Asked, told-reads.Learnt, counted-reads.Asked, counted-reads.Learnt, joined-reads.Asked, joined-reads.Learnt)
 
 abbrev between-Inv-loop : between-lts.InvT-loop
-between-Inv-loop s count t₀ u tier levels left₀ t left = Going (lookIn s (beside t₀ .names) count) (toldAt (u .at)) (BindsUnder s (beside t₀ .names) u) s tier levels left₀ t₀ left t
+between-Inv-loop s count t₀ u tier levels left₀ p₀ t left p = Going (lookIn s (beside t₀ .names) count) (toldAt (u .at)) (BindsUnder s (beside t₀ .names) u) s tier levels left₀ t₀ left t × (p ≡ left .word .place)
 
 abbrev between-μ-loop : between-lts.MeasureT-loop
-between-μ-loop s count t₀ u tier levels left₀ t left = length s - left .word .place
+between-μ-loop s count t₀ u tier levels left₀ p₀ t left p = length s - left .word .place
 
 between-add-expr : (t : ℕ) → between-lts.Need-add-expr (between-calls t) (between-at t) between.Post between-Inv-loop between-μ-loop
 between-add-expr t c = omega (arith, c .before .before .before .pre .1 .0 .low)
@@ -102,22 +101,22 @@ between-expr-requires : (t : ℕ) → between-lts.Need-expr-requires (between-ca
 between-expr-requires t c κs = (omega (arith, c .before .before .before .pre .0, (between-low (c .before .before .before .args .tier) (c .before .before .before .pre .1 .1))), record { near = c .before .before .before .pre .1 .0 .near; listed = c .before .before .before .pre .1 .0 .listed; low = omega (arith, (between-low (c .before .before .before .args .tier) (c .before .before .before .pre .1 .1))); few = c .before .before .before .pre .1 .0 .few })
 
 between-loop-holds : (t : ℕ) → between-lts.Need-loop-holds (between-calls t) (between-at t) between.Post between-Inv-loop between-μ-loop
-between-loop-holds t c = between-start (rw (← c .before .before .expr .ensures .kept) at (c .before .before .expr .ensures))
+between-loop-holds t c = (between-start (rw (← c .before .before .expr .ensures .kept) at (c .before .before .expr .ensures)), refl)
 
 between-strength-of-requires : (t : ℕ) → between-lts.Need-strength-of-requires (between-calls t) (between-at t) between.Post between-Inv-loop between-μ-loop
 between-strength-of-requires t c κs = search needs
 
 between-same-length : (t : ℕ) → between-lts.Need-same-length (between-calls t) (between-at t) between.Post between-Inv-loop between-μ-loop
-between-same-length t c = came-long (between-ends (between-low (c .before .before .before .before .before .before .before .before .before .before .before .args .tier) (c .before .before .before .before .before .before .before .before .before .before .before .pre .1 .1)) (c .before .before .before .before .before .before .before .before .before .before .before .pre .1 .1) (rw (c .before .strength-of .ensures) at (c .if1 .taken)) (c .before .before .before .before .before .before .before .expr .ensures) (rw (c .before .before .before .before .before .before .before .expr .ensures .kept) at (c .before .before .before .before .loop .inv)))
+between-same-length t c = came-long (between-ends (between-low (c .before .before .before .before .before .before .before .before .before .before .before .args .tier) (c .before .before .before .before .before .before .before .before .before .before .before .pre .1 .1)) (c .before .before .before .before .before .before .before .before .before .before .before .pre .1 .1) (rw (c .before .strength-of .ensures) at (c .if1 .taken)) (c .before .before .before .before .before .before .before .expr .ensures) (rw (c .before .before .before .before .before .before .before .expr .ensures .kept) at (c .before .before .before .before .loop .inv .0)))
 
 between-returns : (t : ℕ) → between-lts.Need-returns (between-calls t) (between-at t) between.Post between-Inv-loop between-μ-loop
-between-returns t c = between-ends (between-low (c .before .before .before .before .before .before .before .before .before .before .before .args .tier) (c .before .before .before .before .before .before .before .before .before .before .before .pre .1 .1)) (c .before .before .before .before .before .before .before .before .before .before .before .pre .1 .1) (rw (c .before .strength-of .ensures) at (c .if1 .taken)) (c .before .before .before .before .before .before .before .expr .ensures) (rw (c .before .before .before .before .before .before .before .expr .ensures .kept) at (c .before .before .before .before .loop .inv))
+between-returns t c = between-ends (between-low (c .before .before .before .before .before .before .before .before .before .before .before .args .tier) (c .before .before .before .before .before .before .before .before .before .before .before .pre .1 .1)) (c .before .before .before .before .before .before .before .before .before .before .before .pre .1 .1) (rw (c .before .strength-of .ensures) at (c .if1 .taken)) (c .before .before .before .before .before .before .before .expr .ensures) (rw (c .before .before .before .before .before .before .before .expr .ensures .kept) at (c .before .before .before .before .loop .inv .0))
 
 between-word-from-requires : (t : ℕ) → between-lts.Need-word-from-requires (between-calls t) (between-at t) between.Post between-Inv-loop between-μ-loop
-between-word-from-requires t c κs = (c .before .before .before .before .before .before .before .before .before .before .before .pre .1 .0 .near .short, c .before .before .before .before .loop .inv .near .inside)
+between-word-from-requires t c κs = (c .before .before .before .before .before .before .before .before .before .before .before .pre .1 .0 .near .short, c .before .before .before .before .loop .inv .0 .near .inside)
 
-between-operator-requires : (t : ℕ) → between-lts.Need-operator-requires (between-calls t) (between-at t) between.Post between-Inv-loop between-μ-loop
-between-operator-requires t c κs = search needs
+between-told-requires : (t : ℕ) → between-lts.Need-told-requires (between-calls t) (between-at t) between.Post between-Inv-loop between-μ-loop
+between-told-requires t c κs = search needs
 
 between-counted-requires : (t : ℕ) → between-lts.Need-counted-requires (between-calls t) (between-at t) between.Post between-Inv-loop between-μ-loop
 between-counted-requires t c κs = search needs
@@ -126,16 +125,16 @@ between-add-expr-2 : (t : ℕ) → between-lts.Need-add-expr-2 (between-calls t)
 between-add-expr-2 t c = omega (arith, c .before .before .before .before .before .before .before .before .before .before .before .before .before .before .before .pre .1 .0 .low)
 
 between-expr-requires-2 : (t : ℕ) → between-lts.Need-expr-requires-2 (between-calls t) (between-at t) between.Post between-Inv-loop between-μ-loop
-between-expr-requires-2 t c κs = (omega (arith, c .before .before .before .before .before .before .before .before .before .before .before .before .before .before .before .pre .0, (between-low (c .before .before .before .before .before .before .before .before .before .before .before .before .before .before .before .args .tier) (c .before .before .before .before .before .before .before .before .before .before .before .before .before .before .before .pre .1 .1))), record { near = c .before .before .before .word-from .ensures .near; listed = rw (c .before .before .before .before .before .before .before .before .loop .inv .kept ∙ c .before .before .before .before .before .before .before .before .before .before .before .expr .ensures .kept) (c .before .before .before .before .before .before .before .before .before .before .before .before .before .before .before .pre .1 .0 .listed); low = omega (arith, (between-low (c .before .before .before .before .before .before .before .before .before .before .before .before .before .before .before .args .tier) (c .before .before .before .before .before .before .before .before .before .before .before .before .before .before .before .pre .1 .1))); few = c .before .before .before .before .before .before .before .before .before .before .before .before .before .before .before .pre .1 .0 .few })
+between-expr-requires-2 t c κs = (omega (arith, c .before .before .before .before .before .before .before .before .before .before .before .before .before .before .before .pre .0, (between-low (c .before .before .before .before .before .before .before .before .before .before .before .before .before .before .before .args .tier) (c .before .before .before .before .before .before .before .before .before .before .before .before .before .before .before .pre .1 .1))), record { near = c .before .before .before .word-from .ensures .near; listed = rw (c .before .before .before .before .before .before .before .before .loop .inv .0 .kept ∙ c .before .before .before .before .before .before .before .before .before .before .before .expr .ensures .kept) (c .before .before .before .before .before .before .before .before .before .before .before .before .before .before .before .pre .1 .0 .listed); low = omega (arith, (between-low (c .before .before .before .before .before .before .before .before .before .before .before .before .before .before .before .args .tier) (c .before .before .before .before .before .before .before .before .before .before .before .before .before .before .before .pre .1 .1))); few = c .before .before .before .before .before .before .before .before .before .before .before .before .before .before .before .pre .1 .0 .few })
 
 between-joined-requires : (t : ℕ) → between-lts.Need-joined-requires (between-calls t) (between-at t) between.Post between-Inv-loop between-μ-loop
 between-joined-requires t c κs = search needs
 
 between-loop-less : (t : ℕ) → between-lts.Need-loop-less (between-calls t) (between-at t) between.Post between-Inv-loop between-μ-loop
-between-loop-less t c = omega (arith, c .before .before .before .before .before .before .before .before .before .before .before .before .before .before .before .loop .inv .near .more (strength-known (c .before .before .before .before .before .before .before .before .before .before .before .before .before .before .before .loop .left .word .kind) (c .before .before .before .before .before .before .before .before .before .before .before .before .before .before .before .before .before .before .before .before .before .before .args .tier) (between-low (c .before .before .before .before .before .before .before .before .before .before .before .before .before .before .before .before .before .before .before .before .before .before .args .tier) (c .before .before .before .before .before .before .before .before .before .before .before .before .before .before .before .before .before .before .before .before .before .before .pre .1 .1)) (sym (c .before .before .before .before .before .before .before .before .before .before .before .before .strength-of .ensures) ∙ c .before .before .before .before .before .before .before .before .before .before .before .if1 .left)), c .before .before .before .before .before .before .before .before .before .before .word-from .ensures .later, c .before .before .before .before .before .before .expr2 .ensures .later, c .before .before .before .before .before .before .expr2 .ensures .near .on, c .before .before .before .before .before .before .expr2 .ensures .near .inside, ap (λ (w : Here). w .place) (c .before .before .joined .ensures .0))
+between-loop-less t c = omega (arith, c .before .before .before .before .before .before .before .before .before .before .before .before .before .before .before .loop .inv .0 .near .more (strength-known (c .before .before .before .before .before .before .before .before .before .before .before .before .before .before .before .loop .left .word .kind) (c .before .before .before .before .before .before .before .before .before .before .before .before .before .before .before .before .before .before .before .before .before .before .args .tier) (between-low (c .before .before .before .before .before .before .before .before .before .before .before .before .before .before .before .before .before .before .before .before .before .before .args .tier) (c .before .before .before .before .before .before .before .before .before .before .before .before .before .before .before .before .before .before .before .before .before .before .pre .1 .1)) (sym (c .before .before .before .before .before .before .before .before .before .before .before .before .strength-of .ensures) ∙ c .before .before .before .before .before .before .before .before .before .before .before .if1 .left)), c .before .before .before .before .before .before .before .before .before .before .word-from .ensures .later, c .before .before .before .before .before .before .expr2 .ensures .later, c .before .before .before .before .before .before .expr2 .ensures .near .on, c .before .before .before .before .before .before .expr2 .ensures .near .inside, ap (λ (w : Here). w .place) (c .before .before .joined .ensures .0))
 
 between-loop-again : (t : ℕ) → between-lts.Need-loop-again (between-calls t) (between-at t) between.Post between-Inv-loop between-μ-loop
-between-loop-again t c = between-on (between-low (c .before .before .before .before .before .before .before .before .before .before .before .before .before .before .before .before .before .before .before .before .before .before .args .tier) (c .before .before .before .before .before .before .before .before .before .before .before .before .before .before .before .before .before .before .before .before .before .before .pre .1 .1)) (sym (c .before .before .before .before .before .before .before .before .before .before .before .before .strength-of .ensures) ∙ c .before .before .before .before .before .before .before .before .before .before .before .if1 .left) (c .before .before .before .before .before .before .before .before .before .before .word-from .ensures) (rw (c .before .before .before .before .before .before .before .before .counted .ensures, c .before .before .before .before .before .before .before .before .before .operator .ensures .1, c .before .before .before .before .before .before .before .before .before .before .before .before .before .before .before .loop .inv .kept) at (c .before .before .before .before .before .before .expr2 .ensures)) (c .before .before .joined .ensures .0) (rw (c .before .before .before .before .before .before .before .before .before .operator .ensures .0, c .before .before .before .before .before .before .before .before .before .operator .ensures .1) at (c .before .before .joined .ensures .1)) (c .before .before .before .before .before .before .before .before .before .before .before .before .before .before .before .loop .inv)
+between-loop-again t c = (between-on (c .before .before .before .before .before .before .before .before .before .told .result) (c .before .before .before .before .before .before .before .before .counted .result) (between-low (c .before .before .before .before .before .before .before .before .before .before .before .before .before .before .before .before .before .before .before .before .before .before .args .tier) (c .before .before .before .before .before .before .before .before .before .before .before .before .before .before .before .before .before .before .before .before .before .before .pre .1 .1)) (sym (c .before .before .before .before .before .before .before .before .before .before .before .before .strength-of .ensures) ∙ c .before .before .before .before .before .before .before .before .before .before .before .if1 .left) (c .before .before .before .before .before .before .before .before .before .before .word-from .ensures) (c .before .before .before .before .before .before .before .before .before .told .ensures ∙ ap (toldAt (c .before .before .before .before .before .before .before .before .before .before .before .before .before .before .before .before .before .before .before .before .before .before .args .u .at)) (c .before .before .before .before .before .before .before .before .before .before .before .before .before .before .before .loop .inv .1)) (c .before .before .before .before .before .before .before .before .counted .ensures) (rw (c .before .before .before .before .before .before .before .before .before .before .before .before .before .before .before .loop .inv .0 .kept) at (c .before .before .before .before .before .before .expr2 .ensures)) (c .before .before .joined .ensures .0) (c .before .before .joined .ensures .1) (c .before .before .before .before .before .before .before .before .before .before .before .before .before .before .before .loop .inv .0), refl)
 
 abbrev expr-calls : ℕ → expr-lts.Claims
 expr-calls t = (strength-at-reads.Asked, strength-at-reads.Learnt, expr-below t, expr.Post, nothing-reads.Asked, nothing-reads.Learnt, word-from-reads.Asked, word-from-reads.Learnt, told-reads.Asked, told-reads.Learnt, counted-reads.Asked, counted-reads.Learnt, negated-reads.Asked, negated-reads.Learnt, between-below t, between.Post, operand-below t, operand.Post)
@@ -183,10 +182,10 @@ expr-negated-requires : (t : ℕ) → expr-lts.Need-negated-requires (expr-calls
 expr-negated-requires t c κs = search needs
 
 expr-same-length-2 : (t : ℕ) → expr-lts.Need-same-length-2 (expr-calls t) (expr-at t) expr.Post
-expr-same-length-2 t c = came-long (before-on (before-low (c .before .before .before .before .before .before .before .before .before .before .before .before .before .before .before .before .before .before .before .before .args .tier) _ (rw (c .before .before .before .before .before .before .before .before .before .before .before .before .before .before .before .op .given .1) at (c .before .before .before .before .before .before .before .before .before .before .before .before .before .before .before .before .before .strength-at .ensures))) (rw (c .before .before .before .before .before .before .before .before .before .before .before .before .before .before .before .op .given .1) at (c .before .before .before .before .before .before .before .before .before .before .before .before .before .before .before .before .before .strength-at .ensures)) (c .before .before .before .before .before .before .before .before .before .before .before .before .if1 .left) (c .before .before .before .before .before .before .before .before .before .before .before .before .before .before .before .before .before .before .before .before .pre .1 .near) (c .before .before .before .before .before .before .before .before .before .before .word-from .ensures) (rw (c .before .before .before .before .before .before .before .before .counted .ensures, c .before .before .before .before .before .before .before .before .before .told .ensures) at (c .before .before .before .before .before .before .expr2 .ensures)) (c .before .before .negated .ensures .0) (rw (c .before .before .before .before .before .before .before .before .before .told .ensures) at (c .before .before .negated .ensures .1)))
+expr-same-length-2 t c = came-long (before-on (c .before .before .before .before .before .before .before .before .before .told .result) (c .before .before .before .before .before .before .before .before .counted .result) (before-low (c .before .before .before .before .before .before .before .before .before .before .before .before .before .before .before .before .before .before .before .before .args .tier) _ (rw (c .before .before .before .before .before .before .before .before .before .before .before .before .before .before .before .op .given .1) at (c .before .before .before .before .before .before .before .before .before .before .before .before .before .before .before .before .before .strength-at .ensures))) (rw (c .before .before .before .before .before .before .before .before .before .before .before .before .before .before .before .op .given .1) at (c .before .before .before .before .before .before .before .before .before .before .before .before .before .before .before .before .before .strength-at .ensures)) (c .before .before .before .before .before .before .before .before .before .before .before .before .if1 .left) (c .before .before .before .before .before .before .before .before .before .before .before .before .before .before .before .before .before .before .before .before .pre .1 .near) (c .before .before .before .before .before .before .before .before .before .before .word-from .ensures) (c .before .before .before .before .before .before .before .before .before .told .ensures) (c .before .before .before .before .before .before .before .before .counted .ensures) (c .before .before .before .before .before .before .expr2 .ensures) (c .before .before .negated .ensures .0) (c .before .before .negated .ensures .1))
 
 expr-returns-3 : (t : ℕ) → expr-lts.Need-returns-3 (expr-calls t) (expr-at t) expr.Post
-expr-returns-3 t c = before-on (before-low (c .before .before .before .before .before .before .before .before .before .before .before .before .before .before .before .before .before .before .before .before .args .tier) _ (rw (c .before .before .before .before .before .before .before .before .before .before .before .before .before .before .before .op .given .1) at (c .before .before .before .before .before .before .before .before .before .before .before .before .before .before .before .before .before .strength-at .ensures))) (rw (c .before .before .before .before .before .before .before .before .before .before .before .before .before .before .before .op .given .1) at (c .before .before .before .before .before .before .before .before .before .before .before .before .before .before .before .before .before .strength-at .ensures)) (c .before .before .before .before .before .before .before .before .before .before .before .before .if1 .left) (c .before .before .before .before .before .before .before .before .before .before .before .before .before .before .before .before .before .before .before .before .pre .1 .near) (c .before .before .before .before .before .before .before .before .before .before .word-from .ensures) (rw (c .before .before .before .before .before .before .before .before .counted .ensures, c .before .before .before .before .before .before .before .before .before .told .ensures) at (c .before .before .before .before .before .before .expr2 .ensures)) (c .before .before .negated .ensures .0) (rw (c .before .before .before .before .before .before .before .before .before .told .ensures) at (c .before .before .negated .ensures .1))
+expr-returns-3 t c = before-on (c .before .before .before .before .before .before .before .before .before .told .result) (c .before .before .before .before .before .before .before .before .counted .result) (before-low (c .before .before .before .before .before .before .before .before .before .before .before .before .before .before .before .before .before .before .before .before .args .tier) _ (rw (c .before .before .before .before .before .before .before .before .before .before .before .before .before .before .before .op .given .1) at (c .before .before .before .before .before .before .before .before .before .before .before .before .before .before .before .before .before .strength-at .ensures))) (rw (c .before .before .before .before .before .before .before .before .before .before .before .before .before .before .before .op .given .1) at (c .before .before .before .before .before .before .before .before .before .before .before .before .before .before .before .before .before .strength-at .ensures)) (c .before .before .before .before .before .before .before .before .before .before .before .before .if1 .left) (c .before .before .before .before .before .before .before .before .before .before .before .before .before .before .before .before .before .before .before .before .pre .1 .near) (c .before .before .before .before .before .before .before .before .before .before .word-from .ensures) (c .before .before .before .before .before .before .before .before .before .told .ensures) (c .before .before .before .before .before .before .before .before .counted .ensures) (c .before .before .before .before .before .before .expr2 .ensures) (c .before .before .negated .ensures .0) (c .before .before .negated .ensures .1)
 
 expr-enum-told : (t : ℕ) → expr-lts.Need-enum-told (expr-calls t) (expr-at t) expr.Post
 expr-enum-told t c = search needs
@@ -349,14 +348,14 @@ operand-int-of-requires : (t : ℕ) → operand-lts.Need-int-of-requires (operan
 operand-int-of-requires t c κs = search needs
 
 operand-same-length-4 : (t : ℕ) → operand-lts.Need-same-length-4 (operand-calls t) (operand-at t) operand.Post
-operand-same-length-4 t c = came-long (operand-int (c .before .before .before .before .before .before .before .before .before .before .before .before .before .before .before .before .before .before .before .before .before .pre .1 .1) (c .before .before .before .before .before .before .before .before .before .before .before .before .before .before .before .before .before .before .operand-row .ensures) (λ z. omega (arith, c .before .before .before .before .before .before .before .before .before .before .before .before .before .before .before .before .if2 .left)) (c .before .before .before .before .before .before .before .before .before .before .before .before .before .if4 .left) (c .before .before .before .before .before .before .before .before .before .before .before .before .before .before .before .before .before .before .before .before .before .pre .1 .0 .near) (c .before .before .before .before .before .before .before .before .before .before .before .before .before .before .word-from .ensures) (c .before .before .before .before .before .before .before .before .before .before .before .before .word-from3 .ensures) (rw (c .before .before .before .before .before .before .before .before .before .before .counted .ensures, c .before .before .before .before .before .before .before .before .before .before .before .told .ensures) at (c .before .before .before .before .before .before .before .before .expr2 .ensures)) (c .before .before .before .word-from4 .ensures) (c .before .before .int-of .ensures .0) (rw (c .before .before .before .before .before .before .before .before .before .before .before .told .ensures) at (c .before .before .int-of .ensures .1)))
+operand-same-length-4 t c = came-long (operand-int (c .before .before .before .before .before .before .before .before .before .before .before .told .result) (c .before .before .before .before .before .before .before .before .before .before .counted .result) (c .before .before .before .before .before .before .before .before .before .before .before .before .before .before .before .before .before .before .before .before .before .pre .1 .1) (c .before .before .before .before .before .before .before .before .before .before .before .before .before .before .before .before .before .before .operand-row .ensures) (λ z. omega (arith, c .before .before .before .before .before .before .before .before .before .before .before .before .before .before .before .before .if2 .left)) (c .before .before .before .before .before .before .before .before .before .before .before .before .before .if4 .left) (c .before .before .before .before .before .before .before .before .before .before .before .before .before .before .before .before .before .before .before .before .before .pre .1 .0 .near) (c .before .before .before .before .before .before .before .before .before .before .before .before .before .before .word-from .ensures) (c .before .before .before .before .before .before .before .before .before .before .before .before .word-from3 .ensures) (c .before .before .before .before .before .before .before .before .before .before .before .told .ensures) (c .before .before .before .before .before .before .before .before .before .before .counted .ensures) (c .before .before .before .before .before .before .before .before .expr2 .ensures) (c .before .before .before .word-from4 .ensures) (c .before .before .int-of .ensures .0) (c .before .before .int-of .ensures .1))
 
 operand-returns-5 : (t : ℕ) → operand-lts.Need-returns-5 (operand-calls t) (operand-at t) operand.Post
-operand-returns-5 t c = operand-int (c .before .before .before .before .before .before .before .before .before .before .before .before .before .before .before .before .before .before .before .before .before .pre .1 .1) (c .before .before .before .before .before .before .before .before .before .before .before .before .before .before .before .before .before .before .operand-row .ensures) (λ z. omega (arith, c .before .before .before .before .before .before .before .before .before .before .before .before .before .before .before .before .if2 .left)) (c .before .before .before .before .before .before .before .before .before .before .before .before .before .if4 .left) (c .before .before .before .before .before .before .before .before .before .before .before .before .before .before .before .before .before .before .before .before .before .pre .1 .0 .near) (c .before .before .before .before .before .before .before .before .before .before .before .before .before .before .word-from .ensures) (c .before .before .before .before .before .before .before .before .before .before .before .before .word-from3 .ensures) (rw (c .before .before .before .before .before .before .before .before .before .before .counted .ensures, c .before .before .before .before .before .before .before .before .before .before .before .told .ensures) at (c .before .before .before .before .before .before .before .before .expr2 .ensures)) (c .before .before .before .word-from4 .ensures) (c .before .before .int-of .ensures .0) (rw (c .before .before .before .before .before .before .before .before .before .before .before .told .ensures) at (c .before .before .int-of .ensures .1))
+operand-returns-5 t c = operand-int (c .before .before .before .before .before .before .before .before .before .before .before .told .result) (c .before .before .before .before .before .before .before .before .before .before .counted .result) (c .before .before .before .before .before .before .before .before .before .before .before .before .before .before .before .before .before .before .before .before .before .pre .1 .1) (c .before .before .before .before .before .before .before .before .before .before .before .before .before .before .before .before .before .before .operand-row .ensures) (λ z. omega (arith, c .before .before .before .before .before .before .before .before .before .before .before .before .before .before .before .before .if2 .left)) (c .before .before .before .before .before .before .before .before .before .before .before .before .before .if4 .left) (c .before .before .before .before .before .before .before .before .before .before .before .before .before .before .before .before .before .before .before .before .before .pre .1 .0 .near) (c .before .before .before .before .before .before .before .before .before .before .before .before .before .before .word-from .ensures) (c .before .before .before .before .before .before .before .before .before .before .before .before .word-from3 .ensures) (c .before .before .before .before .before .before .before .before .before .before .before .told .ensures) (c .before .before .before .before .before .before .before .before .before .before .counted .ensures) (c .before .before .before .before .before .before .before .before .expr2 .ensures) (c .before .before .before .word-from4 .ensures) (c .before .before .int-of .ensures .0) (c .before .before .int-of .ensures .1)
 
 pub +between+expr+name+operand-spec : {M : Type 1} → statement M
 +between+expr+name+operand-spec = close μ-between μ-expr μ-name μ-operand
-    (λ t. between-lts.spec (between-calls t) (between-at t) between.Post between-Inv-loop between-μ-loop (between-add-expr t) (between-expr-requires t) (between-loop-holds t) (between-strength-of-requires t) (between-same-length t) (between-returns t) (between-word-from-requires t) (between-operator-requires t) (between-counted-requires t) (between-add-expr-2 t) (between-expr-requires-2 t) (between-joined-requires t) (between-loop-less t) (between-loop-again t))
+    (λ t. between-lts.spec (between-calls t) (between-at t) between.Post between-Inv-loop between-μ-loop (between-add-expr t) (between-expr-requires t) (between-loop-holds t) (between-strength-of-requires t) (between-same-length t) (between-returns t) (between-word-from-requires t) (between-told-requires t) (between-counted-requires t) (between-add-expr-2 t) (between-expr-requires-2 t) (between-joined-requires t) (between-loop-less t) (between-loop-again t))
     (λ t. expr-lts.spec (expr-calls t) (expr-at t) expr.Post (expr-strength-at-requires t) (expr-enum-known-op t) (expr-add-expr t) (expr-expr-requires t) (expr-same-length t) (expr-returns t) (expr-nothing-requires t) (expr-returns-2 t) (expr-word-from-requires t) (expr-told-requires t) (expr-counted-requires t) (expr-sub-expr t) (expr-expr-requires-2 t) (expr-negated-requires t) (expr-same-length-2 t) (expr-returns-3 t) (expr-enum-told t) (expr-between-requires t) (expr-same-length-3 t) (expr-returns-4 t) (expr-enum-told-2 t) (expr-operand-requires t) (expr-same-length-4 t) (expr-returns-5 t))
     (λ t. name-lts.spec (name-calls t) (name-at t) name.Post (name-word-from-requires t) (name-bit-requires t) (name-same-length t) (name-returns t) (name-formal-requires t) (name-find-requires t) (name-told-requires t) (name-named-requires t) (name-same-length-2 t) (name-returns-2 t) (name-cast-if3 t) (name-nothing-requires t) (name-same-length-3 t) (name-returns-3 t) (name-caller-requires t) (name-word-from-requires-2 t) (name-expr-requires t) (name-behind-requires t) (name-same-length-4 t) (name-returns-4 t))
     (λ t. operand-lts.spec (operand-calls t) (operand-at t) operand.Post (operand-operand-row-requires t) (operand-name-requires t) (operand-same-length t) (operand-returns t) (operand-constant-requires t) (operand-same-length-2 t) (operand-returns-2 t) (operand-nothing-requires t) (operand-returns-3 t) (operand-word-from-requires t) (operand-sub-expr t) (operand-expr-requires t) (operand-word-from-requires-2 t) (operand-behind-requires t) (operand-same-length-3 t) (operand-returns-4 t) (operand-word-from-requires-3 t) (operand-told-requires t) (operand-counted-requires t) (operand-sub-expr-2 t) (operand-expr-requires-2 t) (operand-word-from-requires-4 t) (operand-int-of-requires t) (operand-same-length-4 t) (operand-returns-5 t))
