@@ -74,11 +74,11 @@ module _ (s z : List ℕ) (under : Under) (x : List ℕ) (q : ℕ) (found-at : p
 
 module _ {s : List ℕ} (z : List ℕ) (count : ℕ) (under : Under) {h a : Here} {m : Notes} {t : List ℕ} {r : Got} {q : ℕ} (near : Near s h) (b : Begins s (h .next) a) (not-index : ¬ (a .kind ≡ 16))
     (found-at : placed q ≡ formalUnder s z under (part s (h .place) (h .next))) (some-place : ¬ (q ≡ 65535)) (low : q ≤ 65535) (w : r .word ≡ a) where
-  pub formal-read : {around : Under} {h₁ : Here} {g : Got} {u : List ℕ} → Begins s q h₁ → around ≡ callerOf z under → CameUnder s z count around 0 mostLevels h₁ m t u g → ((x : List ℕ) → sumOf r x ≡ sumOf g x) → PlainUnder s z count under 0 h m t u r
-  formal-read {around} {h₁} {g} {u} b₁ e came same = plain-formal near b is not-index w (came .kept)
+  pub formal-read : {around : Under} {k : ℕ} {h₁ : Here} {g : Got} {u : List ℕ} → Begins s q h₁ → around ≡ callerOf z under → CameUnder s z count around 0 k h₁ m t u g → k ≡ mostLevels → ((x : List ℕ) → sumOf r x ≡ sumOf g x) → PlainUnder s z count under 0 h m t u r
+  formal-read {around} {k} {h₁} {g} {u} b₁ e came whole same = plain-formal near b is not-index w (came .kept)
     where
       went : CameUnder s z count (callerOf z under) 0 mostLevels h₁ m t u g
-      went = subst (λ (v : Under). CameUnder s z count v 0 mostLevels h₁ m t u g) e came
+      went = subst (λ (v : Under). CameUnder s z count v 0 mostLevels h₁ m t u g) e (subst (λ (n : ℕ). CameUnder s z count around 0 n h₁ m t u g) whole came)
 
       is : (bound : List (Bound Term)) → BindsUnder s z under bound → (x : Term) × (actualOf bound (part s (h .place) (h .next)) ≡ some x) × (sumOf r u ≡ sum (lookIn s z count) (baseTerm x) m t)
       is bound f =

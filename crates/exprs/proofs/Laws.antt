@@ -108,10 +108,10 @@ module _ {look : List ℕ → Option Variable} {to : ℕ → ℕ} {B : List (Bou
   before-deep low how yes-op none-left near w = came refl (tiers.before-deep low how yes-op none-left near w)
 
   -- .. with its operand
-  pub before-on : {op : ℕ} {h₁ : Here} {u₁ u : List ℕ} {g r : Got} (p : ℕ) (m₁ : Notes) → n < 6 → IsHow (getElem? binding n) (Before op) → h .kind ≡ op → Near s h → Begins s (h .next) h₁ → p ≡ to (h .place) → m₁ ≡ counted m p
-      → Came look to B s n (k - 1) h₁ m₁ t u₁ g → r .word ≡ g .word → sumOf r u ≡ aroundSum m (sumOf g u₁) 7 p true 0 → Came look to B s n k h m t u r
+  pub before-on : {op : ℕ} {h₁ : Here} {u₁ u : List ℕ} {g r : Got} (p : ℕ) {m₁ : Notes} → n < 6 → IsHow (getElem? binding n) (Before op) → h .kind ≡ op → Near s h → Begins s (h .next) h₁ → p ≡ to (h .place)
+      → Came look to B s n (k - 1) h₁ m₁ t u₁ g → m₁ ≡ counted m p → r .word ≡ g .word → sumOf r u ≡ aroundSum m (sumOf g u₁) 7 p true 0 → Came look to B s n k h m t u r
   unfolding aroundSum
-  before-on {op} {h₁} {u₁} {u} {g} {r} p m₁ low how yes-op near begins told one c w sums =
+  before-on {op} {h₁} {u₁} {u} {g} {r} p low how yes-op near begins told c one w sums =
       came (kept-of sums ∙ put-beside u₁ _ _ _ _ _ _ ∙ c .kept)
       (tiers.before-on low how yes-op near begins (comes c) w (λ x e bound bd. sums ∙ ap (λ (y : Sum). aroundSum m y 7 p true 0) (e bound bd) ∙ not-sum look to bound m t (h .place) told one x))
 
@@ -133,12 +133,11 @@ module _ {look : List ℕ → Option Variable} {to : ℕ → ℕ} {B : List (Bou
   between-ends {h} {m} {t} low how other c going = came (going .kept ∙ c .kept) (tiers.between-ends low how other (comes c) (going .going m t))
 
   -- p is what is told of the operator's place, and m₁ the notes with the operator counted
-  pub between-on : {t₀ u u₁ u₂ : List ℕ} {left₀ left right next : Got} {h₁ : Here} (p : ℕ) (m₁ : Notes) → n < 6 → strengthOf (left .word .kind) ≡ n → Begins s (left .word .next) h₁ → p ≡ to (left .word .place) → m₁ ≡ counted (left .notes) p
-      → Came look to B s (n + 1) k h₁ m₁ u u₁ right
-      → next .word ≡ right .word → ((x : List ℕ) → sumOf next u₂ ≡ joinSum (left .word .kind) p (sumOf left x) (sumOf right u₁))
-      → Going look to B s n k left₀ t₀ left u → Going look to B s n k left₀ t₀ next u₂
+  pub between-on : {t₀ u u₁ u₂ : List ℕ} {left₀ left right next : Got} {h₁ : Here} (p : ℕ) {m₁ : Notes} → Going look to B s n k left₀ t₀ left u → n < 6 → strengthOf (left .word .kind) ≡ n → Begins s (left .word .next) h₁ → p ≡ to (left .word .place)
+      → Came look to B s (n + 1) k h₁ m₁ u u₁ right → m₁ ≡ counted (left .notes) p
+      → next .word ≡ right .word → ((x : List ℕ) → sumOf next u₂ ≡ joinSum (left .word .kind) p (sumOf left x) (sumOf right u₁)) → Going look to B s n k left₀ t₀ next u₂
   unfolding joinSum
-  between-on {t₀} {u} {u₁} {u₂} {left₀} {left} {right} {next} {h₁} p m₁ low here begins told one c w sums going =
+  between-on {t₀} {u} {u₁} {u₂} {left₀} {left} {right} {next} {h₁} p going low here begins told c one w sums =
       record {
         near = rw w (c .near);
         later = rw w (omega (arith, going .later, going .near .on, begins .later, c .later));
@@ -160,10 +159,10 @@ module _ {look : List ℕ → Option Variable} {to : ℕ → ℕ} {B : List (Bou
       → Came look to B s 0 (k - 1) h₁ m t u g → Begins s (g .word .next) h₂ → r .word ≡ h₂ → ((x : List ℕ) → sumOf r x ≡ sumOf g x) → Came look to B s n k h m t u r
   operand-open {u} how e five near b₁ c b₂ w sums = came (c .kept) (tiers.operand-open how e five near b₁ (comes c) b₂ w (λ x q bound bd. sums u ∙ q bound bd ∙ parens-sum look to bound x m t))
 
-  pub operand-int : {u₁ u : List ℕ} {g r : Got} {h₁ h₂ h₃ : Here} {row : ℕ} (p : ℕ) (m₁ : Notes) → IsHow (getElem? binding n) Operand → row ≡ operandRow (h .kind) → ¬ (row < 4) → ¬ (row ≡ 5) → Near s h → Begins s (h .next) h₁ → Begins s (h₁ .next) h₂ → p ≡ to (h .place) → m₁ ≡ counted m p
-      → Came look to B s 0 (k - 1) h₂ m₁ t u₁ g → Begins s (g .word .next) h₃ → r .word ≡ h₃ → sumOf r u ≡ aroundSum m (sumOf g u₁) 8 p false 1 → Came look to B s n k h m t u r
+  pub operand-int : {u₁ u : List ℕ} {g r : Got} {h₁ h₂ h₃ : Here} {row : ℕ} (p : ℕ) {m₁ : Notes} → IsHow (getElem? binding n) Operand → row ≡ operandRow (h .kind) → ¬ (row < 4) → ¬ (row ≡ 5) → Near s h → Begins s (h .next) h₁ → Begins s (h₁ .next) h₂ → p ≡ to (h .place)
+      → Came look to B s 0 (k - 1) h₂ m₁ t u₁ g → m₁ ≡ counted m p → Begins s (g .word .next) h₃ → r .word ≡ h₃ → sumOf r u ≡ aroundSum m (sumOf g u₁) 8 p false 1 → Came look to B s n k h m t u r
   unfolding aroundSum
-  operand-int {u₁} p m₁ how e large five near b₁ b₂ told one c b₃ w sums =
+  operand-int {u₁} p how e large five near b₁ b₂ told c one b₃ w sums =
       came (kept-of sums ∙ put-beside u₁ _ _ _ _ _ _ ∙ c .kept)
       (tiers.operand-int how e large five near b₁ b₂ (comes c) b₃ w (λ x q bound bd. sums ∙ ap (λ (y : Sum). aroundSum m y 8 p false 1) (q bound bd) ∙ int-sum look to bound m t (h .place) told one x))
 

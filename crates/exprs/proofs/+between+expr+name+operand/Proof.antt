@@ -134,7 +134,7 @@ between-loop-less : (t : ℕ) → between-lts.Need-loop-less (between-calls t) (
 between-loop-less t c = omega (arith, c .before .before .before .before .before .before .before .before .before .before .before .before .before .before .before .loop .inv .0 .near .more (strength-known (c .before .before .before .before .before .before .before .before .before .before .before .before .before .before .before .loop .left .word .kind) (c .before .before .before .before .before .before .before .before .before .before .before .before .before .before .before .before .before .before .before .before .before .before .args .tier) (between-low (c .before .before .before .before .before .before .before .before .before .before .before .before .before .before .before .before .before .before .before .before .before .before .args .tier) (c .before .before .before .before .before .before .before .before .before .before .before .before .before .before .before .before .before .before .before .before .before .before .pre .1 .1)) (sym (c .before .before .before .before .before .before .before .before .before .before .before .before .strength-of .ensures) ∙ c .before .before .before .before .before .before .before .before .before .before .before .if1 .left)), c .before .before .before .before .before .before .before .before .before .before .word-from .ensures .later, c .before .before .before .before .before .before .expr2 .ensures .later, c .before .before .before .before .before .before .expr2 .ensures .near .on, c .before .before .before .before .before .before .expr2 .ensures .near .inside, ap (λ (w : Here). w .place) (c .before .before .joined .ensures .0))
 
 between-loop-again : (t : ℕ) → between-lts.Need-loop-again (between-calls t) (between-at t) between.Post between-Inv-loop between-μ-loop
-between-loop-again t c = (between-on (c .before .before .before .before .before .before .before .before .before .told .result) (c .before .before .before .before .before .before .before .before .counted .result) (between-low (c .before .before .before .before .before .before .before .before .before .before .before .before .before .before .before .before .before .before .before .before .before .before .args .tier) (c .before .before .before .before .before .before .before .before .before .before .before .before .before .before .before .before .before .before .before .before .before .before .pre .1 .1)) (sym (c .before .before .before .before .before .before .before .before .before .before .before .before .strength-of .ensures) ∙ c .before .before .before .before .before .before .before .before .before .before .before .if1 .left) (c .before .before .before .before .before .before .before .before .before .before .word-from .ensures) (c .before .before .before .before .before .before .before .before .before .told .ensures ∙ ap (toldAt (c .before .before .before .before .before .before .before .before .before .before .before .before .before .before .before .before .before .before .before .before .before .before .args .u .at)) (c .before .before .before .before .before .before .before .before .before .before .before .before .before .before .before .loop .inv .1)) (c .before .before .before .before .before .before .before .before .counted .ensures) (rw (c .before .before .before .before .before .before .before .before .before .before .before .before .before .before .before .loop .inv .0 .kept) at (c .before .before .before .before .before .before .expr2 .ensures)) (c .before .before .joined .ensures .0) (c .before .before .joined .ensures .1) (c .before .before .before .before .before .before .before .before .before .before .before .before .before .before .before .loop .inv .0), refl)
+between-loop-again t c = (between-on (c .before .before .before .before .before .before .before .before .before .told .result) (c .before .before .before .before .before .before .before .before .before .before .before .before .before .before .before .loop .inv .0) (between-low (c .before .before .before .before .before .before .before .before .before .before .before .before .before .before .before .before .before .before .before .before .before .before .args .tier) (c .before .before .before .before .before .before .before .before .before .before .before .before .before .before .before .before .before .before .before .before .before .before .pre .1 .1)) (sym (c .before .before .before .before .before .before .before .before .before .before .before .before .strength-of .ensures) ∙ c .before .before .before .before .before .before .before .before .before .before .before .if1 .left) (c .before .before .before .before .before .before .before .before .before .before .word-from .ensures) (c .before .before .before .before .before .before .before .before .before .told .ensures ∙ ap (toldAt (c .before .before .before .before .before .before .before .before .before .before .before .before .before .before .before .before .before .before .before .before .before .before .args .u .at)) (c .before .before .before .before .before .before .before .before .before .before .before .before .before .before .before .loop .inv .1)) (rw (c .before .before .before .before .before .before .before .before .before .before .before .before .before .before .before .loop .inv .0 .kept) at (c .before .before .before .before .before .before .expr2 .ensures)) (c .before .before .before .before .before .before .before .before .counted .ensures) (c .before .before .joined .ensures .0) (c .before .before .joined .ensures .1), refl)
 
 abbrev expr-calls : ℕ → expr-lts.Claims
 expr-calls t = (strength-at-reads.Asked, strength-at-reads.Learnt, expr-below t, expr.Post, nothing-reads.Asked, nothing-reads.Learnt, word-from-reads.Asked, word-from-reads.Learnt, told-reads.Asked, told-reads.Learnt, counted-reads.Asked, counted-reads.Learnt, negated-reads.Asked, negated-reads.Learnt, between-below t, between.Post, operand-below t, operand.Post)
@@ -182,10 +182,10 @@ expr-negated-requires : (t : ℕ) → expr-lts.Need-negated-requires (expr-calls
 expr-negated-requires t c κs = search needs
 
 expr-same-length-2 : (t : ℕ) → expr-lts.Need-same-length-2 (expr-calls t) (expr-at t) expr.Post
-expr-same-length-2 t c = came-long (before-on (c .before .before .before .before .before .before .before .before .before .told .result) (c .before .before .before .before .before .before .before .before .counted .result) (before-low (c .before .before .before .before .before .before .before .before .before .before .before .before .before .before .before .before .before .before .before .before .args .tier) _ (rw (c .before .before .before .before .before .before .before .before .before .before .before .before .before .before .before .op .given .1) at (c .before .before .before .before .before .before .before .before .before .before .before .before .before .before .before .before .before .strength-at .ensures))) (rw (c .before .before .before .before .before .before .before .before .before .before .before .before .before .before .before .op .given .1) at (c .before .before .before .before .before .before .before .before .before .before .before .before .before .before .before .before .before .strength-at .ensures)) (c .before .before .before .before .before .before .before .before .before .before .before .before .if1 .left) (c .before .before .before .before .before .before .before .before .before .before .before .before .before .before .before .before .before .before .before .before .pre .1 .near) (c .before .before .before .before .before .before .before .before .before .before .word-from .ensures) (c .before .before .before .before .before .before .before .before .before .told .ensures) (c .before .before .before .before .before .before .before .before .counted .ensures) (c .before .before .before .before .before .before .expr2 .ensures) (c .before .before .negated .ensures .0) (c .before .before .negated .ensures .1))
+expr-same-length-2 t c = came-long (before-on (c .before .before .before .before .before .before .before .before .before .told .result) (before-low (c .before .before .before .before .before .before .before .before .before .before .before .before .before .before .before .before .before .before .before .before .args .tier) _ (rw (c .before .before .before .before .before .before .before .before .before .before .before .before .before .before .before .op .given .1) at (c .before .before .before .before .before .before .before .before .before .before .before .before .before .before .before .before .before .strength-at .ensures))) (rw (c .before .before .before .before .before .before .before .before .before .before .before .before .before .before .before .op .given .1) at (c .before .before .before .before .before .before .before .before .before .before .before .before .before .before .before .before .before .strength-at .ensures)) (c .before .before .before .before .before .before .before .before .before .before .before .before .if1 .left) (c .before .before .before .before .before .before .before .before .before .before .before .before .before .before .before .before .before .before .before .before .pre .1 .near) (c .before .before .before .before .before .before .before .before .before .before .word-from .ensures) (c .before .before .before .before .before .before .before .before .before .told .ensures) (c .before .before .before .before .before .before .expr2 .ensures) (c .before .before .before .before .before .before .before .before .counted .ensures) (c .before .before .negated .ensures .0) (c .before .before .negated .ensures .1))
 
 expr-returns-3 : (t : ℕ) → expr-lts.Need-returns-3 (expr-calls t) (expr-at t) expr.Post
-expr-returns-3 t c = before-on (c .before .before .before .before .before .before .before .before .before .told .result) (c .before .before .before .before .before .before .before .before .counted .result) (before-low (c .before .before .before .before .before .before .before .before .before .before .before .before .before .before .before .before .before .before .before .before .args .tier) _ (rw (c .before .before .before .before .before .before .before .before .before .before .before .before .before .before .before .op .given .1) at (c .before .before .before .before .before .before .before .before .before .before .before .before .before .before .before .before .before .strength-at .ensures))) (rw (c .before .before .before .before .before .before .before .before .before .before .before .before .before .before .before .op .given .1) at (c .before .before .before .before .before .before .before .before .before .before .before .before .before .before .before .before .before .strength-at .ensures)) (c .before .before .before .before .before .before .before .before .before .before .before .before .if1 .left) (c .before .before .before .before .before .before .before .before .before .before .before .before .before .before .before .before .before .before .before .before .pre .1 .near) (c .before .before .before .before .before .before .before .before .before .before .word-from .ensures) (c .before .before .before .before .before .before .before .before .before .told .ensures) (c .before .before .before .before .before .before .before .before .counted .ensures) (c .before .before .before .before .before .before .expr2 .ensures) (c .before .before .negated .ensures .0) (c .before .before .negated .ensures .1)
+expr-returns-3 t c = before-on (c .before .before .before .before .before .before .before .before .before .told .result) (before-low (c .before .before .before .before .before .before .before .before .before .before .before .before .before .before .before .before .before .before .before .before .args .tier) _ (rw (c .before .before .before .before .before .before .before .before .before .before .before .before .before .before .before .op .given .1) at (c .before .before .before .before .before .before .before .before .before .before .before .before .before .before .before .before .before .strength-at .ensures))) (rw (c .before .before .before .before .before .before .before .before .before .before .before .before .before .before .before .op .given .1) at (c .before .before .before .before .before .before .before .before .before .before .before .before .before .before .before .before .before .strength-at .ensures)) (c .before .before .before .before .before .before .before .before .before .before .before .before .if1 .left) (c .before .before .before .before .before .before .before .before .before .before .before .before .before .before .before .before .before .before .before .before .pre .1 .near) (c .before .before .before .before .before .before .before .before .before .before .word-from .ensures) (c .before .before .before .before .before .before .before .before .before .told .ensures) (c .before .before .before .before .before .before .expr2 .ensures) (c .before .before .before .before .before .before .before .before .counted .ensures) (c .before .before .negated .ensures .0) (c .before .before .negated .ensures .1)
 
 expr-enum-told : (t : ℕ) → expr-lts.Need-enum-told (expr-calls t) (expr-at t) expr.Post
 expr-enum-told t c = search needs
@@ -273,7 +273,7 @@ name-same-length-4 : (t : ℕ) → name-lts.Need-same-length-4 (name-calls t) (n
 name-same-length-4 t c = came-long (c .before .before .before .expr .ensures)
 
 name-returns-4 : (t : ℕ) → name-lts.Need-returns-4 (name-calls t) (name-at t) name.Post
-name-returns-4 t c = formal-read _ _ (c .before .before .before .before .before .before .before .before .before .before .before .before .before .before .before .before .before .args .u) (c .before .before .before .before .before .before .before .before .before .before .before .before .before .before .before .before .before .pre .1 .near) (c .before .before .before .before .before .before .before .before .before .before .before .before .before .before .word-from .ensures) (c .before .before .before .before .before .before .before .before .before .before .before .before .if1 .left) (c .before .before .before .before .before .before .before .before .before .before .formal .ensures) (c .before .before .before .before .before .before .before .before .before .if2 .left) (omega arith) (c .behind .ensures .0) (c .before .before .before .before .word-from2 .ensures) (c .before .before .before .before .before .before .caller .ensures) (c .before .before .before .expr .ensures) (c .behind .ensures .1)
+name-returns-4 t c = formal-read _ _ (c .before .before .before .before .before .before .before .before .before .before .before .before .before .before .before .before .before .args .u) (c .before .before .before .before .before .before .before .before .before .before .before .before .before .before .before .before .before .pre .1 .near) (c .before .before .before .before .before .before .before .before .before .before .before .before .before .before .word-from .ensures) (c .before .before .before .before .before .before .before .before .before .before .before .before .if1 .left) (c .before .before .before .before .before .before .before .before .before .before .formal .ensures) (c .before .before .before .before .before .before .before .before .before .if2 .left) (omega arith) (c .behind .ensures .0) (c .before .before .before .before .word-from2 .ensures) (c .before .before .before .before .before .before .caller .ensures) (c .before .before .before .expr .ensures) refl (c .behind .ensures .1)
 
 abbrev operand-calls : ℕ → operand-lts.Claims
 operand-calls t = (operand-row-reads.Asked, operand-row-reads.Learnt, name-below t, name.Post, constant-reads.Asked, constant-reads.Learnt, nothing-reads.Asked, nothing-reads.Learnt, word-from-reads.Asked, word-from-reads.Learnt, expr-below t, expr.Post, behind-reads.Asked, behind-reads.Learnt, told-reads.Asked, told-reads.Learnt, counted-reads.Asked, counted-reads.Learnt, int-of-reads.Asked, int-of-reads.Learnt)
@@ -348,10 +348,10 @@ operand-int-of-requires : (t : ℕ) → operand-lts.Need-int-of-requires (operan
 operand-int-of-requires t c κs = search needs
 
 operand-same-length-4 : (t : ℕ) → operand-lts.Need-same-length-4 (operand-calls t) (operand-at t) operand.Post
-operand-same-length-4 t c = came-long (operand-int (c .before .before .before .before .before .before .before .before .before .before .before .told .result) (c .before .before .before .before .before .before .before .before .before .before .counted .result) (c .before .before .before .before .before .before .before .before .before .before .before .before .before .before .before .before .before .before .before .before .before .pre .1 .1) (c .before .before .before .before .before .before .before .before .before .before .before .before .before .before .before .before .before .before .operand-row .ensures) (λ z. omega (arith, c .before .before .before .before .before .before .before .before .before .before .before .before .before .before .before .before .if2 .left)) (c .before .before .before .before .before .before .before .before .before .before .before .before .before .if4 .left) (c .before .before .before .before .before .before .before .before .before .before .before .before .before .before .before .before .before .before .before .before .before .pre .1 .0 .near) (c .before .before .before .before .before .before .before .before .before .before .before .before .before .before .word-from .ensures) (c .before .before .before .before .before .before .before .before .before .before .before .before .word-from3 .ensures) (c .before .before .before .before .before .before .before .before .before .before .before .told .ensures) (c .before .before .before .before .before .before .before .before .before .before .counted .ensures) (c .before .before .before .before .before .before .before .before .expr2 .ensures) (c .before .before .before .word-from4 .ensures) (c .before .before .int-of .ensures .0) (c .before .before .int-of .ensures .1))
+operand-same-length-4 t c = came-long (operand-int (c .before .before .before .before .before .before .before .before .before .before .before .told .result) (c .before .before .before .before .before .before .before .before .before .before .before .before .before .before .before .before .before .before .before .before .before .pre .1 .1) (c .before .before .before .before .before .before .before .before .before .before .before .before .before .before .before .before .before .before .operand-row .ensures) (λ z. omega (arith, c .before .before .before .before .before .before .before .before .before .before .before .before .before .before .before .before .if2 .left)) (c .before .before .before .before .before .before .before .before .before .before .before .before .before .if4 .left) (c .before .before .before .before .before .before .before .before .before .before .before .before .before .before .before .before .before .before .before .before .before .pre .1 .0 .near) (c .before .before .before .before .before .before .before .before .before .before .before .before .before .before .word-from .ensures) (c .before .before .before .before .before .before .before .before .before .before .before .before .word-from3 .ensures) (c .before .before .before .before .before .before .before .before .before .before .before .told .ensures) (c .before .before .before .before .before .before .before .before .expr2 .ensures) (c .before .before .before .before .before .before .before .before .before .before .counted .ensures) (c .before .before .before .word-from4 .ensures) (c .before .before .int-of .ensures .0) (c .before .before .int-of .ensures .1))
 
 operand-returns-5 : (t : ℕ) → operand-lts.Need-returns-5 (operand-calls t) (operand-at t) operand.Post
-operand-returns-5 t c = operand-int (c .before .before .before .before .before .before .before .before .before .before .before .told .result) (c .before .before .before .before .before .before .before .before .before .before .counted .result) (c .before .before .before .before .before .before .before .before .before .before .before .before .before .before .before .before .before .before .before .before .before .pre .1 .1) (c .before .before .before .before .before .before .before .before .before .before .before .before .before .before .before .before .before .before .operand-row .ensures) (λ z. omega (arith, c .before .before .before .before .before .before .before .before .before .before .before .before .before .before .before .before .if2 .left)) (c .before .before .before .before .before .before .before .before .before .before .before .before .before .if4 .left) (c .before .before .before .before .before .before .before .before .before .before .before .before .before .before .before .before .before .before .before .before .before .pre .1 .0 .near) (c .before .before .before .before .before .before .before .before .before .before .before .before .before .before .word-from .ensures) (c .before .before .before .before .before .before .before .before .before .before .before .before .word-from3 .ensures) (c .before .before .before .before .before .before .before .before .before .before .before .told .ensures) (c .before .before .before .before .before .before .before .before .before .before .counted .ensures) (c .before .before .before .before .before .before .before .before .expr2 .ensures) (c .before .before .before .word-from4 .ensures) (c .before .before .int-of .ensures .0) (c .before .before .int-of .ensures .1)
+operand-returns-5 t c = operand-int (c .before .before .before .before .before .before .before .before .before .before .before .told .result) (c .before .before .before .before .before .before .before .before .before .before .before .before .before .before .before .before .before .before .before .before .before .pre .1 .1) (c .before .before .before .before .before .before .before .before .before .before .before .before .before .before .before .before .before .before .operand-row .ensures) (λ z. omega (arith, c .before .before .before .before .before .before .before .before .before .before .before .before .before .before .before .before .if2 .left)) (c .before .before .before .before .before .before .before .before .before .before .before .before .before .if4 .left) (c .before .before .before .before .before .before .before .before .before .before .before .before .before .before .before .before .before .before .before .before .before .pre .1 .0 .near) (c .before .before .before .before .before .before .before .before .before .before .before .before .before .before .word-from .ensures) (c .before .before .before .before .before .before .before .before .before .before .before .before .word-from3 .ensures) (c .before .before .before .before .before .before .before .before .before .before .before .told .ensures) (c .before .before .before .before .before .before .before .before .expr2 .ensures) (c .before .before .before .before .before .before .before .before .before .before .counted .ensures) (c .before .before .before .word-from4 .ensures) (c .before .before .int-of .ensures .0) (c .before .before .int-of .ensures .1)
 
 pub +between+expr+name+operand-spec : {M : Type 1} → statement M
 +between+expr+name+operand-spec = close μ-between μ-expr μ-name μ-operand
