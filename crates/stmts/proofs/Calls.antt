@@ -170,7 +170,7 @@ module _ {s : List ℕ} {under : Under} {h : Here} {t t₁ t₂ t₃ : List ℕ}
   unfolding beside
   long-three = same-size (clears .behind) ∙ long-two
 
-  pub all-back : beside t₃ ≡ beside t
+  all-back : beside t₃ ≡ beside t
   unfolding beside
   all-back = ap (λ (n : ℕ). record { size = n; names = beside t₃ .names }) long-three ∙ ap (λ (z : List ℕ). record { size = length t; names = z }) names-back
 
