@@ -1,4 +1,5 @@
 // What the reader of statements needs to know of a call in the program's own text before it reads it.
+ghost use mathlib.Core.Path.{_≡_};
 ghost use Prim.Native.Nat.{_≤_};
 ghost use Rattle.hand.specs.Along.{Near};
 ghost use Rattle.gauge.specs.Measures.{Measures};
@@ -15,6 +16,17 @@ pub struct Gauged {
     pub deep: bool,
 }
 
+fn made(word: Here, over: bool, acts: u16, deep: bool) -> Gauged
+    ensures { λ r. ⌜ r ≡ record { word = word; over = over; acts = acts; deep = deep } ⌝ }
+{
+    Gauged {
+        word,
+        over,
+        acts,
+        deep,
+    }
+}
+
 // A call from its name on, with so many levels open around.
 pub fn measure(s: &[u8], t: &mut [u8], u: Under, around: u8, first: Here) -> Gauged
     requires { ⌜ Near (now s) first × (around ≤ 32) ⌝ }
@@ -22,37 +34,18 @@ pub fn measure(s: &[u8], t: &mut [u8], u: Under, around: u8, first: Here) -> Gau
 {
     let after = hand::word_from(s, first.next);
     if after.kind != 14 {
-        return Gauged {
-            word: first,
-            over: false,
-            acts: 0,
-            deep: false,
-        };
+        return made(first, false, 0, false);
     }
     let m = measure::outermost(s, t, u, first, after);
     let word = m.word;
     if m.passed {
         let row = find::procedure(s, t, u.seen, first.place, first.next);
-        return Gauged {
-            word,
-            over: true,
-            acts: area::wide_at(t, row) as u16,
-            deep: false,
-        };
+        let acts = area::wide_at(t, row) as u16;
+        return made(word, true, acts, false);
     }
     if m.over {
-        return Gauged {
-            word,
-            over: true,
-            acts: m.acts,
-            deep: false,
-        };
+        return made(word, true, m.acts, false);
     }
     let fits = measure::fits(s, t, u, first, after, around);
-    Gauged {
-        word,
-        over: false,
-        acts: 0,
-        deep: !fits,
-    }
+    made(word, false, 0, !fits)
 }
