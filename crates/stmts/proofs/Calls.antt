@@ -21,6 +21,7 @@ use Rattle.language.specs.Words.{Word}
 use Rattle.language.specs.Grammar.{AfterName, Statements}
 use Rattle.descent_law.proofs.Deeper.{deeper}
 use Rattle.language.specs.Trees.{nameAt}
+use Rattle.descent_law.specs.Told.{Told}
 use Rattle.descent_law.specs.Rows.{StatementRow, AfterNameRow}
 use Rattle.descent_law.proofs.Statements.{after-name-told}
 use Rattle.hand.specs.declared.Here.{Here}
@@ -43,8 +44,8 @@ use Rattle.own_law.specs.Own.{nothing, ownAll}
 use Rattle.own_law.proofs.Calls.{kept}
 use Rattle.own_law.proofs.Early.{read-outermost}
 use Rattle.expand_law.proofs.Places.{faults-at-call}
-use Rattle.measure.specs.declared.Measured.{Measured}
-use Rattle.measure.specs.Measures.{Sized, Measures}
+use Rattle.gauge.specs.declared.Gauged.{Gauged}
+use Rattle.gauge.specs.Measures.{Sized, Measures}
 use Rattle.order_law.proofs.Senses.{own-bound}
 use Rattle.order_law.proofs.Outermost.{read-levels}
 use Rattle.tiers.proofs.Laws.{first-is}
@@ -70,7 +71,7 @@ module _ {s : List ℕ} {h a : Here} {k : ℕ} (few : k ≤ mostLevels) (second 
     where
       go : Stands s h (w ∷ tail) → (f₁ : ℕ) → AfterNameRow f₁ k tail g rest 1 → (w : Name) × (ts : List Term) × CallAt s h w ts rest × (v ≡ call w ts)
       go st₂ f₁ (o, c, m, tail₁, ts, q, lev, told, is) =
-          (nameAt w, ts, record { fuel = f₁; levels = m; few = omega (arith, few, lev); word = w; opens = o; closes = c; tail = tail₁; stands = subst (λ (l : List Word). Stands s h (w ∷ l)) q st₂; told = told; named = refl }, d ∙ ap (λ (n : Name → Command). n (nameAt w)) is)
+          (nameAt w, ts, record { fuel = f₁; levels = m; few = omega (arith, few, lev); word = w; opens = o; closes = c; tail = tail₁; stands = subst (λ (l : List Word). Stands s h (w ∷ l)) q st₂; told = told; named = refl; row-fuel = f; row-levels = k; row-few = few; row = (w, o ∷ tail₁, g, refl, subst (λ (l : List Word). Told f AfterName k l g rest) q y, sym (ap (λ (n : Name → Command). n (nameAt w)) is)) }, d ∙ ap (λ (n : Name → Command). n (nameAt w)) is)
 
   module _ {z : List ℕ} {count : ℕ} {under : Under} {l b : Bool} {m : Marks} {t u : List ℕ} {r : Read} where
     pub call-named : under .at < noPlace → CallCame s z count under l b h m t u r → RowCame s z count under k l b 5 h m t u r
@@ -169,7 +170,7 @@ module _ {s : List ℕ} {under : Under} {h : Here} {t t₁ t₂ t₃ : List ℕ}
   unfolding beside
   long-three = same-size (clears .behind) ∙ long-two
 
-  pub all-back : beside t₃ ≡ beside t
+  all-back : beside t₃ ≡ beside t
   unfolding beside
   all-back = ap (λ (n : ℕ). record { size = n; names = beside t₃ .names }) long-three ∙ ap (λ (z : List ℕ). record { size = length t; names = z }) names-back
 
@@ -285,7 +286,7 @@ outermost-by look ps v ts n l b w c e =
     read-outermost sixAt (nineIn false) (λ x. walkAll look x l b) ps v ts n w
     ∙ ap (λ (k : Bool). cond k (nineAt (v .place) (walk look (tree.parallel (headAt (v .place)) (idle (v .place) (kept ps v ts))) l b w)) (read look false n (called ps (v .place) v (map (replaced (λ q. v .place) []) ts)) l b w)) (sym e)
 
-module _ {s : List ℕ} {count : ℕ} {under : Under} {h : Here} {t t₁ : List ℕ} {n : ℕ} {q : Measured} (near : Near s h) (measures : Measures s (insideAt under (h .place)) n h t t₁ q) (o : Scope s (beside t .names) count under) (outside : ¬ (under .at < noPlace)) {v : Name} {ts : List Term} {rest : List Word} (at : CallAt s h v ts rest) where
+module _ {s : List ℕ} {count : ℕ} {under : Under} {h : Here} {t t₁ : List ℕ} {n : ℕ} {q : Gauged} (near : Near s h) (measures : Measures s (insideAt under (h .place)) n h t t₁ q) (o : Scope s (beside t .names) count under) (outside : ¬ (under .at < noPlace)) {v : Name} {ts : List Term} {rest : List Word} (at : CallAt s h v ts rest) where
   abbrev place : ℕ
   place = toldAt (under .at) (h .place)
 
@@ -303,7 +304,7 @@ module _ {s : List ℕ} {count : ℕ} {under : Under} {h : Here} {t t₁ : List 
   told-inside = let e : place ≡ h .place = own-told o outside (h .place) in omega (arith, e, near .on, near .inside, near .short)
 
   sized : Sized s (o .procedures) place n (at .word) ts rest q
-  sized = measures .told (o .procedures) (own-open o outside (h .place)) told-inside (at .fuel) (at .levels) (at .word) (at .opens) (at .closes) (at .tail) rest ts (at .stands) (at .told)
+  sized = measures .told (o .procedures) (own-open o outside (h .place)) (o .own outside) (own-told o outside (h .place)) at
 
   named-call : (k : ℕ) (l b : Bool) (w : Walked) → oneIn (senseOf count o) k (call v ts) l b w ≡ read (lookIn s (beside t .names) count) false k (outermost (o .procedures) called-name ts) l b w
   named-call k l b w = own-call o outside k v ts l b w ∙ ap (λ (x : Name). read (lookIn s (beside t .names) count) false k (outermost (o .procedures) x ts) l b w) name-is
@@ -324,7 +325,7 @@ module _ {s : List ℕ} {count : ℕ} {under : Under} {h : Here} {t t₁ : List 
       ∙ sym (read-levels n x place (faults-at-call [] (o .procedures) called-name ts .levels n) few (sized .none) (lookIn s (beside t .names) count) l b w)
       ∙ sym (outermost-by (lookIn s (beside t .names) count) (o .procedures) called-name ts n l b w false (sym e ∙ sized .over)) ∙ sym (named-call n l b w)
 
-module _ {s : List ℕ} {count : ℕ} {under : Under} {k : ℕ} {l b : Bool} {h : Here} {m : Marks} {t t₁ : List ℕ} {q : Measured} (near : Near s h) (measures : Measures s (insideAt under (h .place)) (around k) h t t₁ q) where
+module _ {s : List ℕ} {count : ℕ} {under : Under} {k : ℕ} {l b : Bool} {h : Here} {m : Marks} {t t₁ : List ℕ} {q : Gauged} (near : Near s h) (measures : Measures s (insideAt under (h .place)) (around k) h t t₁ q) where
   pub outermost-over : {u : List ℕ} {r : Read} → q .over ≡ true → Passes (toldAt (under .at) (h .place)) (q .acts) (q .word) m t u r → OutermostCame s (beside t .names) count under k l b h m t u r
   outermost-over {u} {r} over fin =
       record {

@@ -120,7 +120,7 @@ fn outermost(
     ensures { λ r. ⌜ OutermostCame (now (s .entry)) (beside (now (t .entry)) .names) count u levels lp br first marks (now (t .entry)) (now (t .exit)) r ⌝ }
 {
     let v = items::inside(u, first.place);
-    let k = measure::measure(s, t, v, 32 - levels, first);
+    let k = gauge::measure(s, t, v, 32 - levels, first);
     let w = k.word;
     if k.over {
         return plain::stays::passing(t, w, marks, v.at, k.acts);

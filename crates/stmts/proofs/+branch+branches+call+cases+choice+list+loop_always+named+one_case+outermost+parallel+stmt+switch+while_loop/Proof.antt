@@ -6,12 +6,12 @@ use Prim.Native.Nat.{_-_, _*_, _+_}
 use native.Mathlib.Omega.{arith}
 use borrow.Author.Needs.{needs}
 use lib.ListN.{length}
-use Rattle.parts.specs.Beside.{beside}
+use Rattle.parts.specs.Beside.{Beside, beside}
 use Rattle.parts.proofs.Beside.{same-size}
 use Rattle.stmts.proofs.Laws.{one-row, one-none, one-if, loop-came, switch-came, parallel-came, while-came, if-came, else-came}
 use Rattle.stmts.proofs.Lists.{Going, list-start, list-ends, list-spare, list-on, case-came, CasesGoing, cases-start, cases-end, cases-on, branch-came, BranchesGoing, branches-start, branches-end, branches-on}
 use Rattle.frames.specs.declared.Under.{Under}
-use Rattle.stmts.proofs.Calls.{call-named, outermost-named, call-refused, call-expanded, still-listed, all-back, wrote-none, wrote-frame, outermost-over, outermost-flat, outermost-deep}
+use Rattle.stmts.proofs.Calls.{call-named, outermost-named, call-refused, call-expanded, still-listed, wrote-none, wrote-frame, outermost-over, outermost-flat, outermost-deep}
 use Prim.Native.Nat.{ℕ, _<_}
 use borrow.Fn.Kinds.{In}
 use borrow.Fn.PlainCycle.{Measures, is, falls, and}
@@ -70,7 +70,7 @@ use Rattle.items.proofs.noted.with_acts.Reads as with-acts-reads
 use Rattle.items.proofs.rows.is_plain.Reads as is-plain-reads
 use Rattle.items.proofs.rows.statement_row.Reads as statement-row-reads
 use Rattle.items.proofs.told.Reads as told-reads
-use Rattle.measure.proofs.measure.Reads as measure-reads
+use Rattle.gauge.proofs.measure.Reads as measure-reads
 use Rattle.plain.proofs.assign.Reads as assign-reads
 use Rattle.plain.proofs.plain.Reads as plain-reads
 use Rattle.plain.proofs.stays.passing.Reads as stays-passing-reads
@@ -319,9 +319,8 @@ unfolding beside
 call-same-length t c =
     let k₁ = c .before .before .before .before in
     let k₂ = k₁ .before .before .before .before in
-    let k₃ = k₂ .before .before .before .before in
-    let k₄ = k₃ .before .before .before .before in
-    same-size (all-back (k₄ .enter .ensures) (k₃ .if1 .taken) (k₂ .list .ensures .on .kept) (k₁ .clear .ensures))
+    let k₃ = k₂ .before .before .before .before .before .before .before .before in
+    ap (λ (d : Beside). d .size) (k₁ .clear .ensures .behind) ∙ same-size (k₂ .list .ensures .on .kept) ∙ k₃ .enter .ensures .size
 
 call-returns : (t : ℕ) → call-lts.Need-returns (call-calls t) (call-at t) call.Post
 call-returns t c =
@@ -778,7 +777,7 @@ outermost-sub-measure t c =
 outermost-measure-requires : (t : ℕ) → outermost-lts.Need-measure-requires (outermost-calls t) (outermost-at t) outermost.Post
 outermost-measure-requires t c κs =
     let k₁ = c .before .before .before .before in
-    k₁ .pre .1 .near
+    (k₁ .pre .1 .near, omega arith)
 
 outermost-passing-requires : (t : ℕ) → outermost-lts.Need-passing-requires (outermost-calls t) (outermost-at t) outermost.Post
 outermost-passing-requires t c κs = search needs
