@@ -47,6 +47,9 @@ row-wraps Times p a b r x e f = no-bool e
 row-wraps Quotient p a b r x e f = no-bool e
 row-wraps Remainder p a b r x e f = no-bool e
 
+pub alone : (z : ℤ) → (0 + lowBits 32 z) % 2 ^ 32 ≡ lowBits 32 z
+alone z = omega (arith, low-lt 32 z)
+
 -- ---- a part with no operands, and none at all
 
 pub none-right : (left : ℕ) (t : List ℕ) (j : ℕ) (r : Reads) → left ≡ 0 → 0 ≡ lowBits 32 (wholeOf (value (exprAt left t j) r))
@@ -109,7 +112,3 @@ module _ (left : ℕ) (t : List ℕ) (j : ℕ) {n : Term} {o : Sum} {a b : ℕ} 
       ap (λ (z : ℕ). (z + lowBits 32 (wholeOf (value first r))) % 2 ^ 32) g
       ∙ row-wraps o place first second r x row-adds f
       ∙ ap (λ (z : Expr Variable). (x + lowBits 32 (wholeOf (value z r))) % 2 ^ 32) (sym row-opens)
-
-  pub sum-right : (r : Reads) {y s : ℕ} → y ≡ lowBits 32 (wholeOf (value second r)) → s ≡ joinedOf o 0 y
-      → (s + lowBits 32 (wholeOf (value first r))) % 2 ^ 32 ≡ lowBits 32 (wholeOf (value (exprAt left t j) r))
-  sum-right r f g = omega (arith, row-right r 0 f g, low-lt 32 (wholeOf (value (exprAt left t j) r)))

@@ -21,11 +21,17 @@ fn joined(o: Sum, x: u32, y: u32) -> u32
     }
 }
 
-// A part that is no sum: its exact value's low 32 bits.
+// A part that is no sum: the low 32 bits of its exact value.
 fn exact(t: &[u8; 16384], word: u32, inputs: u32, j: u16, left: u16) -> u32
     requires { ⌜ RightSide (exprAt left (now t) j) ⌝ }
     ensures { λ r. ⌜ r ≡ lowBits 32 (wholeOf (value (exprAt left (now (t .entry)) j) (record { word = word; inputs = inputs }))) ⌝ }
 {
+    if left == 0 {
+        return 0;
+    }
+    if value::is_leaf(t, j) {
+        return value::leaf(t, word, inputs, j);
+    }
     ints::low_bits(value::value(t, word, inputs, j, left))
 }
 
@@ -40,15 +46,11 @@ fn added(t: &[u8; 16384], word: u32, inputs: u32, j: u16, left: u16, x: u32) -> 
     let less = left - 1;
     let n = value::term_at(t, j);
     match n {
-        Term::Added(o, a, b) => added(
-            t,
-            word,
-            inputs,
-            a,
-            less,
-            joined(o, x, wrapped(t, word, inputs, b, less)),
-        ),
-        Term::Other => std::num::wrapping_add_u32(x, wrapped(t, word, inputs, j, left)),
+        Term::Added(o, a, b) => {
+            let y = wrapped(t, word, inputs, b, less);
+            added(t, word, inputs, a, less, joined(o, x, y))
+        }
+        Term::Other => std::num::wrapping_add_u32(x, exact(t, word, inputs, j, left)),
     }
 }
 
@@ -57,23 +59,9 @@ pub fn wrapped(t: &[u8; 16384], word: u32, inputs: u32, j: u16, left: u16) -> u3
     requires { ⌜ RightSide (exprAt left (now t) j) ⌝ }
     ensures { λ r. ⌜ ((w : ℕ) → w ≤ 32 → r % 2 ^ w ≡ lowBits w (wholeOf (value (exprAt left (now (t .entry)) j) (record { word = word; inputs = inputs })))) ⌝ }
 {
-    if left == 0 {
-        return 0;
-    }
-    if value::is_leaf(t, j) {
-        return value::leaf(t, word, inputs, j);
-    }
-    let less = left - 1;
     let n = value::term_at(t, j);
     match n {
-        Term::Added(o, a, b) => added(
-            t,
-            word,
-            inputs,
-            a,
-            less,
-            joined(o, 0, wrapped(t, word, inputs, b, less)),
-        ),
+        Term::Added(_, _, _) => added(t, word, inputs, j, left, 0),
         Term::Other => exact(t, word, inputs, j, left),
     }
 }

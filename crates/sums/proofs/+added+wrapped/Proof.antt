@@ -1,13 +1,13 @@
-use mathlib.Core.Path.{_≡_, sym, ap, _∙_}
+use mathlib.Core.Path.{_≡_, ap, _∙_}
 use Prim.Native.Nat.{ℕ, _+_, _-_, _*_, _%_, _^_, _<_}
 use native.Mathlib.Omega.{arith}
 use denote.Ref.{now}
 use borrow.Author.Needs.{needs}
 use borrow.Fn.Kinds.{In}
 use borrow.Fn.PlainCycle.{Measures, is, falls, and}
-use Rattle.meaning.specs.Numbers.{Reads, lowBits, wholeOf, value}
+use Rattle.meaning.specs.Numbers.{wholeOf, value}
 use Rattle.nodes.specs.Decode.{exprAt}
-use Rattle.sums.proofs.Laws.{any-width, all-bits, none-right, none-added, leaf-right, leaf-wraps, first-right, second-right, row-right, sum-right}
+use Rattle.sums.proofs.Laws.{any-width, all-bits, alone, none-added, first-right, second-right, row-right}
 use Rattle.sums.proofs.added.Reads as added
 use Rattle.sums.proofs.added.Kinds as added-kinds
 use Rattle.sums.proofs.+added+wrapped.Lts-added as added-lts
@@ -17,17 +17,15 @@ use Rattle.sums.proofs.+added+wrapped.Lts-wrapped as wrapped-lts
 use Rattle.std.proofs.num.wrapping_add_u32.Reads as wrapping-add-u32-reads
 use Rattle.sums.proofs.exact.Reads as exact-reads
 use Rattle.sums.proofs.joined.Reads as joined-reads
-use Rattle.value.proofs.is_leaf.Reads as is-leaf-reads
-use Rattle.value.proofs.leaf.Reads as leaf-reads
 use Rattle.value.proofs.term_at.Reads as term-at-reads
 use Rattle.sums.proofs.+added+wrapped.{statement}
 use Rattle.sums.proofs.+added+wrapped.Tie.{close}
 
 abbrev μ-added : Measures 1 added-kinds.ps ℕ
-μ-added κs a = 2 * a .1 .1 .1 .1 .0 + 1
+μ-added κs a = 2 * a .1 .1 .1 .1 .0
 
 abbrev μ-wrapped : Measures 1 wrapped-kinds.ps ℕ
-μ-wrapped κs a = 2 * a .1 .1 .1 .1 .0
+μ-wrapped κs a = 2 * a .1 .1 .1 .1 .0 + 1
 
 abbrev added-at : ℕ → In 1 added-kinds.ps
 added-at t = and 1 added-kinds.ps (is 1 added-kinds.ps μ-added t) added.Pre
@@ -42,10 +40,10 @@ abbrev wrapped-below : ℕ → In 1 wrapped-kinds.ps
 wrapped-below t = and 1 wrapped-kinds.ps (falls 1 wrapped-kinds.ps _<_ μ-wrapped t) wrapped.Pre
 
 abbrev calls-added : ℕ → added-lts.Claims
-calls-added t = (term-at-reads.Asked, term-at-reads.Learnt, wrapped-below t, wrapped.Post, joined-reads.Asked, joined-reads.Learnt, added-below t, added.Post, wrapping-add-u32-reads.Asked, wrapping-add-u32-reads.Learnt)
+calls-added t = (term-at-reads.Asked, term-at-reads.Learnt, wrapped-below t, wrapped.Post, joined-reads.Asked, joined-reads.Learnt, added-below t, added.Post, exact-reads.Asked, exact-reads.Learnt, wrapping-add-u32-reads.Asked, wrapping-add-u32-reads.Learnt)
 
 abbrev calls-wrapped : ℕ → wrapped-lts.Claims
-calls-wrapped t = (is-leaf-reads.Asked, is-leaf-reads.Learnt, leaf-reads.Asked, leaf-reads.Learnt, term-at-reads.Asked, term-at-reads.Learnt, wrapped-below t, wrapped.Post, joined-reads.Asked, joined-reads.Learnt, added-below t, added.Post, exact-reads.Asked, exact-reads.Learnt)
+calls-wrapped t = (term-at-reads.Asked, term-at-reads.Learnt, added-below t, added.Post, exact-reads.Asked, exact-reads.Learnt)
 
 pub +added+wrapped-spec : {M : Type 1} → statement M
 +added+wrapped-spec = close μ-added μ-wrapped
@@ -58,22 +56,15 @@ pub +added+wrapped-spec : {M : Type 1} → statement M
     (λ c κs. search needs)
     (λ c κs. (omega arith, first-right (c .before .before .before .before .before .before .before .args .left) (now (c .before .before .before .before .before .before .before .args .t)) (c .before .before .before .before .before .before .before .args .j) (c .before .before .before .before .before .before .if1 .left) (c .before .before .before .before .before .term-at .ensures) (c .before .before .before .n .given .1) (c .before .before .before .before .before .before .before .pre .1 .1 .1)))
     (λ c. search needs)
-    (λ c κs. (omega arith, c .before .before .before .before .pre .1))
+    (λ c κs. c .before .before .before .before .pre .1)
     (λ c κs. search needs)
     (λ c. c .added .ensures ∙ row-right (c .before .before .before .before .before .before .before .before .args .left) (now (c .before .before .before .before .before .before .before .before .args .t)) (c .before .before .before .before .before .before .before .before .args .j) (c .before .before .before .before .before .before .before .if1 .left) (c .before .before .before .before .before .before .term-at .ensures) (c .before .before .before .before .n .given .1) (record { word = c .before .before .before .before .before .before .before .before .args .word; inputs = c .before .before .before .before .before .before .before .before .args .inputs }) (c .before .before .before .before .before .before .before .before .args .x) (all-bits (wholeOf (value (exprAt (c .before .before .before .before .before .before .before .before .args .left - 1) (now (c .before .before .before .before .before .before .before .before .args .t)) (c .before .before .before .before .n .given .0 .1 .1 .0)) (record { word = c .before .before .before .before .before .before .before .before .args .word; inputs = c .before .before .before .before .before .before .before .before .args .inputs }))) (omega arith) (c .before .before .wrapped .ensures)) (c .before .joined .ensures))
-    (λ c. c .wrapping-add-u32 .ensures ∙ ap (λ (y : ℕ). (c .before .before .before .before .before .before .args .x + y) % 2 ^ 32) (all-bits (wholeOf (value (exprAt (c .before .before .before .before .before .before .args .left) (now (c .before .before .before .before .before .before .args .t)) (c .before .before .before .before .before .before .args .j)) (record { word = c .before .before .before .before .before .before .args .word; inputs = c .before .before .before .before .before .before .args .inputs }))) (omega arith) (c .before .wrapped2 .ensures))))
+    (λ c. c .wrapping-add-u32 .ensures ∙ ap (λ (y : ℕ). (c .before .before .before .before .before .before .args .x + y) % 2 ^ 32) (c .before .exact .ensures)))
     (λ t. wrapped-lts.spec (calls-wrapped t) (wrapped-at t) wrapped.Post
-    (λ c. any-width (wholeOf (value (exprAt (c .before .args .left) (now (c .before .args .t)) (c .before .args .j)) (record { word = c .before .args .word; inputs = c .before .args .inputs }))) (none-right (c .before .args .left) (now (c .before .args .t)) (c .before .args .j) (record { word = c .before .args .word; inputs = c .before .args .inputs }) (c .if1 .taken)))
-    (λ c κs. search needs)
-    (λ c κs. leaf-right (c .before .before .before .args .left) (now (c .before .before .before .args .t)) (c .before .before .before .args .j) (c .before .before .if1 .left) (sym (c .before .is-leaf .ensures) ∙ c .if2 .taken) (c .before .before .before .pre .1 .1 .1))
-    (λ c. any-width (wholeOf (value (exprAt (c .before .before .before .before .args .left) (now (c .before .before .before .before .args .t)) (c .before .before .before .before .args .j)) (record { word = c .before .before .before .before .args .word; inputs = c .before .before .before .before .args .inputs }))) (leaf-wraps (c .before .before .before .before .args .left) (now (c .before .before .before .before .args .t)) (c .before .before .before .before .args .j) (c .before .before .before .if1 .left) (sym (c .before .before .is-leaf .ensures) ∙ c .before .if2 .taken) (record { word = c .before .before .before .before .args .word; inputs = c .before .before .before .before .args .inputs }) (omega arith) (c .before .before .before .before .pre .1 .1 .0) (c .leaf .ensures)))
-    (λ c. search needs)
     (λ c κs. search needs)
     (λ c. search needs)
-    (λ c κs. (omega arith, second-right (c .before .before .before .before .before .before .before .args .left) (now (c .before .before .before .before .before .before .before .args .t)) (c .before .before .before .before .before .before .before .args .j) (c .before .before .before .before .before .before .if1 .left) (c .before .before .before .term-at .ensures) (c .before .n .given .1) (c .before .before .before .before .before .before .before .pre .1 .1 .1)))
-    (λ c κs. search needs)
-    (λ c κs. (omega arith, first-right (c .before .before .before .before .before .before .before .before .before .args .left) (now (c .before .before .before .before .before .before .before .before .before .args .t)) (c .before .before .before .before .before .before .before .before .before .args .j) (c .before .before .before .before .before .before .before .before .if1 .left) (c .before .before .before .before .before .term-at .ensures) (c .before .before .before .n .given .1) (c .before .before .before .before .before .before .before .before .before .pre .1 .1 .1)))
+    (λ c κs. (omega arith, c .before .before .before .pre .1))
     (λ c. search needs)
-    (λ c κs. search needs)
-    (λ c. any-width (wholeOf (value (exprAt (c .before .before .before .before .before .before .before .before .before .before .args .left) (now (c .before .before .before .before .before .before .before .before .before .before .args .t)) (c .before .before .before .before .before .before .before .before .before .before .args .j)) (record { word = c .before .before .before .before .before .before .before .before .before .before .args .word; inputs = c .before .before .before .before .before .before .before .before .before .before .args .inputs }))) (c .added .ensures ∙ sum-right (c .before .before .before .before .before .before .before .before .before .before .args .left) (now (c .before .before .before .before .before .before .before .before .before .before .args .t)) (c .before .before .before .before .before .before .before .before .before .before .args .j) (c .before .before .before .before .before .before .before .before .before .if1 .left) (c .before .before .before .before .before .before .term-at .ensures) (c .before .before .before .before .n .given .1) (record { word = c .before .before .before .before .before .before .before .before .before .before .args .word; inputs = c .before .before .before .before .before .before .before .before .before .before .args .inputs }) (all-bits (wholeOf (value (exprAt (c .before .before .before .before .before .before .before .before .before .before .args .left - 1) (now (c .before .before .before .before .before .before .before .before .before .before .args .t)) (c .before .before .before .before .n .given .0 .1 .1 .0)) (record { word = c .before .before .before .before .before .before .before .before .before .before .args .word; inputs = c .before .before .before .before .before .before .before .before .before .before .args .inputs }))) (omega arith) (c .before .before .wrapped .ensures)) (c .before .joined .ensures)))
-    (λ c. any-width (wholeOf (value (exprAt (c .before .before .before .before .before .before .before .args .left) (now (c .before .before .before .before .before .before .before .args .t)) (c .before .before .before .before .before .before .before .args .j)) (record { word = c .before .before .before .before .before .before .before .args .word; inputs = c .before .before .before .before .before .before .before .args .inputs }))) (c .exact .ensures)))
+    (λ c κs. c .before .before .before .pre .1)
+    (λ c. any-width (wholeOf (value (exprAt (c .before .before .before .before .args .left) (now (c .before .before .before .before .args .t)) (c .before .before .before .before .args .j)) (record { word = c .before .before .before .before .args .word; inputs = c .before .before .before .before .args .inputs }))) (c .added .ensures ∙ alone (wholeOf (value (exprAt (c .before .before .before .before .args .left) (now (c .before .before .before .before .args .t)) (c .before .before .before .before .args .j)) (record { word = c .before .before .before .before .args .word; inputs = c .before .before .before .before .args .inputs })))))
+    (λ c. any-width (wholeOf (value (exprAt (c .before .before .before .before .args .left) (now (c .before .before .before .before .args .t)) (c .before .before .before .before .args .j)) (record { word = c .before .before .before .before .args .word; inputs = c .before .before .before .before .args .inputs }))) (c .exact .ensures)))
