@@ -28,10 +28,6 @@ use Rattle.sums.specs.Wrapped.{RightSide, joinedOf}
 pub any-width : (z : ℤ) {x : ℕ} → x ≡ lowBits 32 z → (w : ℕ) → w ≤ 32 → x % 2 ^ w ≡ lowBits w z
 any-width z e w h = ap (λ (y : ℕ). y % 2 ^ w) e ∙ sym (low-of-low w 32 z h)
 
--- .. and are one of them
-pub all-bits : (z : ℤ) {x : ℕ} → x < 4294967296 → ((w : ℕ) → w ≤ 32 → x % 2 ^ w ≡ lowBits w z) → x ≡ lowBits 32 z
-all-bits z {x} h f = sym (mod-eq-of-lt {n = x} {m = 2 ^ 32} h) ∙ f 32 (omega arith)
-
 -- ---- one operator
 
 pub taken : (x y r : ℕ) → x < 4294967296 → y < 4294967296 → r < 4294967296 → (r + y) % 2 ^ 32 ≡ x → r ≡ (x + (2 ^ 32 - y)) % 2 ^ 32

@@ -47,10 +47,22 @@ fn added(t: &[u8; 16384], word: u32, inputs: u32, j: u16, left: u16, x: u32) -> 
     let n = value::term_at(t, j);
     match n {
         Term::Added(o, a, b) => {
-            let y = wrapped(t, word, inputs, b, less);
+            let y = operand(t, word, inputs, b, less);
             added(t, word, inputs, a, less, joined(o, x, y))
         }
         Term::Other => std::num::wrapping_add_u32(x, exact(t, word, inputs, j, left)),
+    }
+}
+
+// A sum in parentheses takes a call of its own.
+fn operand(t: &[u8; 16384], word: u32, inputs: u32, j: u16, left: u16) -> u32
+    requires { ⌜ RightSide (exprAt left (now t) j) ⌝ }
+    ensures { λ r. ⌜ r ≡ lowBits 32 (wholeOf (value (exprAt left (now (t .entry)) j) (record { word = word; inputs = inputs }))) ⌝ }
+{
+    let n = value::term_at(t, j);
+    match n {
+        Term::Added(_, _, _) => added(t, word, inputs, j, left, 0),
+        Term::Other => exact(t, word, inputs, j, left),
     }
 }
 
@@ -59,9 +71,5 @@ pub fn wrapped(t: &[u8; 16384], word: u32, inputs: u32, j: u16, left: u16) -> u3
     requires { ⌜ RightSide (exprAt left (now t) j) ⌝ }
     ensures { λ r. ⌜ ((w : ℕ) → w ≤ 32 → r % 2 ^ w ≡ lowBits w (wholeOf (value (exprAt left (now (t .entry)) j) (record { word = word; inputs = inputs })))) ⌝ }
 {
-    let n = value::term_at(t, j);
-    match n {
-        Term::Added(_, _, _) => added(t, word, inputs, j, left, 0),
-        Term::Other => exact(t, word, inputs, j, left),
-    }
+    added(t, word, inputs, j, left, 0)
 }
