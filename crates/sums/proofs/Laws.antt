@@ -3,23 +3,21 @@ use mathlib.Core.Path.{_≡_, refl, sym, ap, _∙_}
 use mathlib.Core.Bool.{true}
 use mathlib.Core.List.{List}
 use Prim.Native.Nat.{ℕ, _+_, _-_, _%_, _^_, _≤_, _<_}
-use native.Mathlib.Nat.{mod-eq-of-lt}
 use native.Mathlib.Omega.{arith}
-use lib.IntN.{ℤ, pos}
-use Rattle.meaning.specs.Tree.{Expr, literal, arithmetic}
+use lib.IntN.{ℤ}
+use Rattle.meaning.specs.Tree.{Expr, arithmetic}
 use Rattle.meaning.specs.Numbers.{Variable, Reads, lowBits, wholeOf, value}
 use Rattle.meaning.proofs.LowBits.{low-lt, low-sum, low-difference, low-of-low}
 use Rattle.nodes.specs.Layout.{halfAt, partBase, kindAt}
-use Rattle.nodes.specs.Decode.{sum, exprOf, exprAt}
-use Rattle.nodes.specs.Fit.{isWhole, sizeOf, Fit}
+use Rattle.nodes.specs.Decode.{sum, exprAt}
+use Rattle.nodes.specs.Fit.{sizeOf, Fit}
 use Rattle.nodes.specs.declared.Sum.{Sum}
 use Rattle.nodes.specs.declared.Sum.the-variants.{Plus, Minus, Times, Quotient, Remainder}
 use Rattle.nodes.proofs.Laws.{expr-opened, expr-empty}
 use Rattle.value.specs.declared.Term.{Term}
 use Rattle.value.specs.declared.Term.the-variants.{Added}
-use Rattle.value.specs.Leaf.{isLeaf, Leaf, leafOf}
 use Rattle.value.specs.Row.{adds, termOf}
-use Rattle.value.proofs.Laws.{no-bool, whole-flat, adds-size, added, leaf-fits, leaf-is}
+use Rattle.value.proofs.Laws.{no-bool, adds-size, added}
 use Rattle.sums.specs.Wrapped.{RightSide, joinedOf}
 
 -- ---- the width
@@ -46,30 +44,15 @@ row-wraps Remainder p a b r x e f = no-bool e
 pub alone : (z : ℤ) → (0 + lowBits 32 z) % 2 ^ 32 ≡ lowBits 32 z
 alone z = omega (arith, low-lt 32 z)
 
--- ---- a part with no operands, and none at all
+-- ---- no part at all
 
-pub none-right : (left : ℕ) (t : List ℕ) (j : ℕ) (r : Reads) → left ≡ 0 → 0 ≡ lowBits 32 (wholeOf (value (exprAt left t j) r))
+none-right : (left : ℕ) (t : List ℕ) (j : ℕ) (r : Reads) → left ≡ 0 → 0 ≡ lowBits 32 (wholeOf (value (exprAt left t j) r))
 unfolding value
 none-right left t j r e = rw (expr-empty left t j e)
 
 pub none-added : (left : ℕ) (t : List ℕ) (j : ℕ) (r : Reads) (x : ℕ) → x < 4294967296 → left ≡ 0
     → x ≡ (x + lowBits 32 (wholeOf (value (exprAt left t j) r))) % 2 ^ 32
 none-added left t j r x h e = omega (arith, none-right left t j r e)
-
-module _ (left : ℕ) (t : List ℕ) (j : ℕ) (h : left ≡ 0 → ⊥) (k : isLeaf (kindAt t j) ≡ true) where
-  leaf-opens : exprAt left t j ≡ exprOf (exprAt (left - 1) t) (halfAt t (partBase j + 2)) (kindAt t j)
-  leaf-opens = expr-opened left t j h refl refl
-
-  pub leaf-right : Fit (exprAt left t j) → Leaf (kindAt t j)
-  leaf-right f = leaf-fits (kindAt t j) (exprAt (left - 1) t) (halfAt t (partBase j + 2)) k (rw leaf-opens at f)
-
-  pub leaf-wraps : (r : Reads) {x : ℕ} → x < 4294967296 → isWhole (exprAt left t j) ≡ true → x ≡ leafOf (kindAt t j) r → x ≡ lowBits 32 (wholeOf (value (exprAt left t j) r))
-  leaf-wraps r {x} m w e =
-      sym (mod-eq-of-lt {n = x} {m = 2 ^ 32} m)
-      ∙ ap (lowBits 32)
-      (ap pos e
-      ∙ rw (sym leaf-opens) at (leaf-is (kindAt t j) (exprAt (left - 1) t) (halfAt t (partBase j + 2)) r k)
-      ∙ whole-flat (exprAt left t j) r w)
 
 -- ---- a row of `+` and `-` in the tree
 

@@ -26,13 +26,7 @@ fn exact(t: &[u8; 16384], word: u32, inputs: u32, j: u16, left: u16) -> u32
     requires { ⌜ RightSide (exprAt left (now t) j) ⌝ }
     ensures { λ r. ⌜ r ≡ lowBits 32 (wholeOf (value (exprAt left (now (t .entry)) j) (record { word = word; inputs = inputs }))) ⌝ }
 {
-    if left == 0 {
-        return 0;
-    }
-    if value::is_leaf(t, j) {
-        return value::leaf(t, word, inputs, j);
-    }
-    ints::low_bits(value::value(t, word, inputs, j, left))
+    ints::low_bits(value::operand(t, word, inputs, j, left))
 }
 
 // x and the part j: a row of `+` and `-` is added up from its end, with no call for each.

@@ -28,14 +28,14 @@ use Rattle.nodes.specs.declared.Kind.the-variants as kinds
 use Rattle.value.specs.declared.Term.{Term}
 use Rattle.value.specs.declared.Term.the-variants.{Added, Other}
 use Rattle.value.specs.Flat.{flat, truthOf, compareZ, decides}
-use Rattle.value.specs.Leaf.{digitOf, isLeaf, Leaf, leafOf}
+use Rattle.value.specs.Leaf.{isLeaf, Leaf, leafOf}
 use Rattle.value.specs.Row.{adds, signed, termOf}
 
 -- a number that an i64 holds, read back from its bits
 pub through : (z : ℤ) → mag z < 9223372036854775808 → toZ w64 (ofZ w64 z) ≡ z
 through z h = toZ-ofZ w64 z (record { sfits = h })
 
-bit-number : (d : ℕ) → d < 2 → pos d ≡ asNumber (isOne d)
+pub bit-number : (d : ℕ) → d < 2 → pos d ≡ asNumber (isOne d)
 bit-number zero h = refl
 bit-number (suc zero) h = refl
 bit-number (suc (suc d)) h = absurd (omega arith)
@@ -274,18 +274,14 @@ leaf-fits (kinds.Arithmetic o a b) d p e h = no-bool e
 leaf-fits (kinds.Comparison o a b) d p e h = no-bool e
 leaf-fits (kinds.Logic o a b) d p e h = no-bool e
 
-digit-number : (b : Bool) → pos (digitOf b) ≡ asNumber b
-digit-number true = refl
-digit-number false = refl
-
-pub leaf-is : (k : Kind) (d : ℕ → Expr Variable) (p : ℕ) (r : Reads) → isLeaf k ≡ true → pos (leafOf k r) ≡ flat (value (exprOf d p k) r)
+pub leaf-is : (k : Kind) (d : ℕ → Expr Variable) (p : ℕ) (r : Reads) → isLeaf k ≡ true → leafOf k r ≡ flat (value (exprOf d p k) r)
 unfolding value
 leaf-is (kinds.Literal n) d p r e = refl
-leaf-is (kinds.Truth b) d p r e = digit-number b
-leaf-is (kinds.Input i) d p r e = bit-number (r .inputs / 2 ^ i % 2) (omega arith)
-leaf-is (kinds.Boolean j) d p r e = bit-number (r .word / 2 ^ j % 2) (omega arith)
+leaf-is (kinds.Truth b) d p r e = refl
+leaf-is (kinds.Input i) d p r e = refl
+leaf-is (kinds.Boolean j) d p r e = refl
 leaf-is (kinds.Integer low width) d p r e = refl
-leaf-is (kinds.Bit low width j) d p r e = bit-number (r .word / 2 ^ (low + j) % 2) (omega arith)
+leaf-is (kinds.Bit low width j) d p r e = refl
 leaf-is (kinds.Not a) d p r e = no-bool e
 leaf-is (kinds.Int a) d p r e = no-bool e
 leaf-is (kinds.Arithmetic o a b) d p r e = no-bool e

@@ -2,7 +2,8 @@
 -- Assumes nothing.
 use Prim.Native.Nat.{ℕ, _+_, _<_, _≤_, _^_, _/_, _%_}
 use mathlib.Core.Bool.{Bool, true, false}
-use Rattle.meaning.specs.Numbers.{Reads}
+use lib.IntN.{ℤ, pos}
+use Rattle.meaning.specs.Numbers.{Reads, bitOf, asNumber}
 use Rattle.nodes.specs.declared.Kind.{Kind}
 use Rattle.nodes.specs.declared.Kind.the-variants.{Literal, Truth, Input, Boolean, Integer, Bit, Not, Int, Arithmetic, Comparison, Logic}
 
@@ -33,19 +34,15 @@ Leaf (Arithmetic o a b) = ⊥
 Leaf (Comparison o a b) = ⊥
 Leaf (Logic o a b) = ⊥
 
-abbrev pub digitOf : Bool → ℕ
-digitOf true = 1
-digitOf false = 0
-
-abbrev pub leafOf : Kind → Reads → ℕ
-leafOf (Literal n) r = n
-leafOf (Truth b) r = digitOf b
-leafOf (Input i) r = r .inputs / 2 ^ i % 2
-leafOf (Boolean j) r = r .word / 2 ^ j % 2
-leafOf (Integer low width) r = r .word / 2 ^ low % 2 ^ width
-leafOf (Bit low width j) r = r .word / 2 ^ (low + j) % 2
-leafOf (Not a) r = 0
-leafOf (Int a) r = 0
-leafOf (Arithmetic o a b) r = 0
-leafOf (Comparison o a b) r = 0
-leafOf (Logic o a b) r = 0
+abbrev pub leafOf : Kind → Reads → ℤ
+leafOf (Literal n) r = pos n
+leafOf (Truth b) r = asNumber b
+leafOf (Input i) r = asNumber (bitOf (r .inputs) i)
+leafOf (Boolean j) r = asNumber (bitOf (r .word) j)
+leafOf (Integer low width) r = pos (r .word / 2 ^ low % 2 ^ width)
+leafOf (Bit low width j) r = asNumber (bitOf (r .word) (low + j))
+leafOf (Not a) r = pos 0
+leafOf (Int a) r = pos 0
+leafOf (Arithmetic o a b) r = pos 0
+leafOf (Comparison o a b) r = pos 0
+leafOf (Logic o a b) r = pos 0

@@ -3,13 +3,13 @@ ghost use mathlib.Core.Path.{_≡_};
 ghost use Prim.Native.Nat.{ℕ, _+_, _<_, _≤_, _^_, _/_, _%_};
 ghost use mathlib.Core.Bool.{true, not as opposite};
 ghost use lib.IntN.{ℤ, pos, natAbs, _+ℤ_};
-ghost use Rattle.meaning.specs.Numbers.{asNumber, sameWhole, compute, value};
+ghost use Rattle.meaning.specs.Numbers.{bitOf, asNumber, sameWhole, compute, value};
 ghost use Rattle.meaning.specs.Worst.{combined};
 ghost use Rattle.nodes.specs.Layout.{kindAt};
 ghost use Rattle.nodes.specs.Decode.{sum, test, link, exprAt};
 ghost use Rattle.nodes.specs.Fit.{isWhole, sizeOf, Fit};
 ghost use Rattle.value.specs.Flat.{flat, truthOf, compareZ, decides};
-ghost use Rattle.value.specs.Leaf.{digitOf, isLeaf, Leaf, leafOf};
+ghost use Rattle.value.specs.Leaf.{isLeaf, Leaf, leafOf};
 ghost use Rattle.value.specs.Row.{adds, signed, rowOf, termOf};
 use nodes::Kind;
 use nodes::Link;
@@ -37,24 +37,18 @@ fn flipped(x: i64) -> i64
     flag(!truth(x))
 }
 
-fn digit(b: bool) -> u32
-    ensures { λ r. ⌜ r ≡ digitOf b ⌝ }
-{
-    if b { 1 } else { 0 }
-}
-
-fn bit_of(n: u32, j: u16) -> u32
+fn bit_of(n: u32, j: u16) -> i64
     requires { ⌜ j < 32 ⌝ }
-    ensures { λ r. ⌜ r ≡ n / 2 ^ j % 2 ⌝ }
+    ensures { λ r. ⌜ r ≡ asNumber (bitOf n j) ⌝ }
 {
-    (n >> j as u32) % 2
+    ints::of((n >> j as u32) % 2)
 }
 
-fn field_of(n: u32, low: u16, width: u16) -> u32
+fn field_of(n: u32, low: u16, width: u16) -> i64
     requires { ⌜ (low < 32) × (width ≤ 16) ⌝ }
-    ensures { λ r. ⌜ r ≡ n / 2 ^ low % 2 ^ width ⌝ }
+    ensures { λ r. ⌜ r ≡ pos (n / 2 ^ low % 2 ^ width) ⌝ }
 {
-    (n >> low as u32) & ((1u32 << width as u32) - 1)
+    ints::of((n >> low as u32) & ((1u32 << width as u32) - 1))
 }
 
 fn computed(o: Sum, a: i64, b: i64) -> i64
@@ -126,22 +120,21 @@ fn decided(o: Link, x: i64) -> bool
     }
 }
 
-pub fn is_leaf(t: &[u8; 16384], j: u16) -> bool
+fn is_leaf(t: &[u8; 16384], j: u16) -> bool
     ensures { λ r. ⌜ r ≡ isLeaf (kindAt (now (t .entry)) j) ⌝ }
 {
     t[8192 + j as usize % 1024 * 8] < 7
 }
 
-// What a part with no operands holds: never below 0.
-pub fn leaf(t: &[u8; 16384], word: u32, inputs: u32, j: u16) -> u32
+fn leaf(t: &[u8; 16384], word: u32, inputs: u32, j: u16) -> i64
     requires { ⌜ Leaf (kindAt (now t) j) ⌝ }
     ensures { λ r. ⌜ r ≡ leafOf (kindAt (now (t .entry)) j) (record { word = word; inputs = inputs }) ⌝ }
 {
     let n = nodes::part_at(t, j);
     let k = n.kind;
     match k {
-        Kind::Literal(v) => v as u32,
-        Kind::Truth(b) => digit(b),
+        Kind::Literal(v) => ints::of(v as u32),
+        Kind::Truth(b) => flag(b),
         Kind::Input(i) => bit_of(inputs, i),
         Kind::Boolean(i) => bit_of(word, i),
         Kind::Integer(low, width) => field_of(word, low, width),
@@ -152,13 +145,6 @@ pub fn leaf(t: &[u8; 16384], word: u32, inputs: u32, j: u16) -> u32
         Kind::Comparison(_, _, _) => 0,
         Kind::Logic(_, _, _) => 0,
     }
-}
-
-fn leaf_value(t: &[u8; 16384], word: u32, inputs: u32, j: u16) -> i64
-    requires { ⌜ Leaf (kindAt (now t) j) ⌝ }
-    ensures { λ r. ⌜ r ≡ pos (leafOf (kindAt (now (t .entry)) j) (record { word = word; inputs = inputs })) ⌝ }
-{
-    ints::of(leaf(t, word, inputs, j))
 }
 
 // A part of a row of `+` and `-`: its operator and operands; or something else.
@@ -206,7 +192,7 @@ pub fn term_at(t: &[u8; 16384], j: u16) -> Term
 }
 
 // A leaf takes no call of its own.
-fn operand(t: &[u8; 16384], word: u32, inputs: u32, j: u16, left: u16) -> i64
+pub fn operand(t: &[u8; 16384], word: u32, inputs: u32, j: u16, left: u16) -> i64
     requires { ⌜ Fit (exprAt left (now t) j) ⌝ }
     ensures { λ r. ⌜ r ≡ flat (value (exprAt left (now (t .entry)) j) (record { word = word; inputs = inputs })) ⌝ }
 {
@@ -214,7 +200,7 @@ fn operand(t: &[u8; 16384], word: u32, inputs: u32, j: u16, left: u16) -> i64
         return 0;
     }
     if is_leaf(t, j) {
-        return leaf_value(t, word, inputs, j);
+        return leaf(t, word, inputs, j);
     }
     value(t, word, inputs, j, left)
 }
@@ -249,12 +235,12 @@ pub fn value(t: &[u8; 16384], word: u32, inputs: u32, j: u16, left: u16) -> i64
     let n = nodes::part_at(t, j);
     let k = n.kind;
     match k {
-        Kind::Literal(_) => leaf_value(t, word, inputs, j),
-        Kind::Truth(_) => leaf_value(t, word, inputs, j),
-        Kind::Input(_) => leaf_value(t, word, inputs, j),
-        Kind::Boolean(_) => leaf_value(t, word, inputs, j),
-        Kind::Integer(_, _) => leaf_value(t, word, inputs, j),
-        Kind::Bit(_, _, _) => leaf_value(t, word, inputs, j),
+        Kind::Literal(_) => leaf(t, word, inputs, j),
+        Kind::Truth(_) => leaf(t, word, inputs, j),
+        Kind::Input(_) => leaf(t, word, inputs, j),
+        Kind::Boolean(_) => leaf(t, word, inputs, j),
+        Kind::Integer(_, _) => leaf(t, word, inputs, j),
+        Kind::Bit(_, _, _) => leaf(t, word, inputs, j),
         Kind::Not(a) => flipped(operand(t, word, inputs, a, less)),
         Kind::Int(a) => operand(t, word, inputs, a, less),
         Kind::Arithmetic(o, a, b) => {

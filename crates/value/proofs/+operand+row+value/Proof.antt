@@ -2,7 +2,7 @@ use mathlib.Core.Path.{_≡_, refl, ap, sym, _∙_}
 use mathlib.Core.Bool.{true}
 use Prim.Native.Nat.{ℕ, _-_, _+_, _*_, _<_}
 use native.Mathlib.Omega.{arith}
-use lib.IntN.{pos, natAbs, +ℤ-idl}
+use lib.IntN.{natAbs, +ℤ-idl}
 use denote.Ref.{now}
 use borrow.Author.Needs.{needs}
 use borrow.Fn.Kinds.{In}
@@ -21,7 +21,7 @@ use Rattle.nodes.specs.declared.Sum.{Sum}
 use Rattle.nodes.proofs.Laws.{expr-opened, expr-empty}
 use Rattle.value.specs.declared.Term.the-variants.{Added}
 use Rattle.value.specs.Flat.{flat}
-use Rattle.value.specs.Leaf.{isLeaf, Leaf, leafOf}
+use Rattle.value.specs.Leaf.{Leaf, leafOf}
 use Rattle.value.specs.Row.{adds}
 use Rattle.value.proofs.Laws.{through, size-of, fits, arithmetic-is, not-is, int-is, comparison-is, logic-first, logic-second, known, leaf-fits, leaf-is, added, row-sign, sum-room, sum-is, row-room, row-more, row-is}
 use Rattle.value.proofs.operand.Reads as operand
@@ -41,7 +41,7 @@ use Rattle.value.proofs.decided.Reads as decided-reads
 use Rattle.value.proofs.flipped.Reads as flipped-reads
 use Rattle.value.proofs.is_added.Reads as is-added-reads
 use Rattle.value.proofs.is_leaf.Reads as is-leaf-reads
-use Rattle.value.proofs.leaf_value.Reads as leaf-value-reads
+use Rattle.value.proofs.leaf.Reads as leaf-reads
 use Rattle.value.proofs.term_at.Reads as term-at-reads
 use Rattle.value.proofs.with_sign.Reads as with-sign-reads
 use Rattle.value.proofs.+operand+row+value.{statement}
@@ -75,13 +75,13 @@ abbrev value-below : ℕ → In 1 value-kinds.ps
 value-below t = and 1 value-kinds.ps (falls 1 value-kinds.ps _<_ μ-value t) value.Pre
 
 abbrev calls-operand : ℕ → operand-lts.Claims
-calls-operand t = (is-leaf-reads.Asked, is-leaf-reads.Learnt, leaf-value-reads.Asked, leaf-value-reads.Learnt, value-below t, value.Post)
+calls-operand t = (is-leaf-reads.Asked, is-leaf-reads.Learnt, leaf-reads.Asked, leaf-reads.Learnt, value-below t, value.Post)
 
 abbrev calls-row : ℕ → row-lts.Claims
 calls-row t = (term-at-reads.Asked, term-at-reads.Learnt, operand-below t, operand.Post, with-sign-reads.Asked, with-sign-reads.Learnt, plus-reads.Asked, plus-reads.Learnt, row-below t, row.Post)
 
 abbrev calls-value : ℕ → value-lts.Claims
-calls-value t = (part-at-reads.Asked, part-at-reads.Learnt, leaf-value-reads.Asked, leaf-value-reads.Learnt, operand-below t, operand.Post, flipped-reads.Asked, flipped-reads.Learnt, is-added-reads.Asked, is-added-reads.Learnt, with-sign-reads.Asked, with-sign-reads.Learnt, row-below t, row.Post, computed-reads.Asked, computed-reads.Learnt, compared-reads.Asked, compared-reads.Learnt, decided-reads.Asked, decided-reads.Learnt)
+calls-value t = (part-at-reads.Asked, part-at-reads.Learnt, leaf-reads.Asked, leaf-reads.Learnt, operand-below t, operand.Post, flipped-reads.Asked, flipped-reads.Learnt, is-added-reads.Asked, is-added-reads.Learnt, with-sign-reads.Asked, with-sign-reads.Learnt, row-below t, row.Post, computed-reads.Asked, computed-reads.Learnt, compared-reads.Asked, compared-reads.Learnt, decided-reads.Asked, decided-reads.Learnt)
 
 -- at a leaf
 module _ (t : ℕ) (c : operand-lts.Then2 (calls-operand t) (operand-at t) operand.Post) where
@@ -97,7 +97,7 @@ module _ (t : ℕ) (c : operand-lts.Then2 (calls-operand t) (operand-at t) opera
   o-fits : Leaf (kindAt (now (o-start .args .t)) (o-start .args .j))
   o-fits = leaf-fits (kindAt (now (o-start .args .t)) (o-start .args .j)) (exprAt (o-start .args .left - 1) (now (o-start .args .t))) (halfAt (now (o-start .args .t)) (partBase (o-start .args .j) + 2)) (sym (c .before .is-leaf .ensures) ∙ c .if2 .taken) (rw o-opens at (o-start .pre .1))
 
-  o-is : pos (leafOf (kindAt (now (o-start .args .t)) (o-start .args .j)) o-reads) ≡ flat (numbers.value (exprAt (o-start .args .left) (now (o-start .args .t)) (o-start .args .j)) o-reads)
+  o-is : leafOf (kindAt (now (o-start .args .t)) (o-start .args .j)) o-reads ≡ flat (numbers.value (exprAt (o-start .args .left) (now (o-start .args .t)) (o-start .args .j)) o-reads)
   o-is = leaf-is (kindAt (now (o-start .args .t)) (o-start .args .j)) (exprAt (o-start .args .left - 1) (now (o-start .args .t))) (halfAt (now (o-start .args .t)) (partBase (o-start .args .j) + 2)) o-reads (sym (c .before .is-leaf .ensures) ∙ c .if2 .taken) ∙ ap (λ (x : Expr Variable). flat (numbers.value x o-reads)) (sym o-opens)
 
 -- in a row, at its operator o with the operands a and b
@@ -149,9 +149,6 @@ module _ (t : ℕ) (c : value-lts.After-part-at (calls-value t) (value-at t) val
   means : {k : Kind} → c .part-at .result .kind ≡ k → flat (numbers.value (exprAt (s .args .left) (now (s .args .t)) (s .args .j)) reads) ≡ flat (numbers.value (opened-as k) reads)
   means e = ap (λ (x : Expr Variable). flat (numbers.value x reads)) (opens e)
 
-  leaf-means : {k : Kind} → c .part-at .result .kind ≡ k → isLeaf k ≡ true → pos (leafOf k reads) ≡ flat (numbers.value (exprAt (s .args .left) (now (s .args .t)) (s .args .j)) reads)
-  leaf-means {k} e h = leaf-is k (exprAt (s .args .left - 1) (now (s .args .t))) place reads h ∙ sym (means e)
-
   fit : {k : Kind} → c .part-at .result .kind ≡ k → Fit (opened-as k)
   fit e = rw (opens e) at (s .pre .1)
 
@@ -162,7 +159,7 @@ unfolding numbers.value Fit
     (λ c. sym (ap (λ (x : Expr Variable). flat (numbers.value x (record { word = c .before .args .word; inputs = c .before .args .inputs }))) (expr-empty _ _ _ (c .if1 .taken))))
     (λ c κs. search needs)
     (λ c κs. o-fits t c)
-    (λ c. rw (through _ (c .leaf-value .ok)) (c .leaf-value .ensures ∙ o-is t (c .before)))
+    (λ c. rw (through _ (c .leaf .ok)) (c .leaf .ensures ∙ o-is t (c .before)))
     (λ c κs. (omega arith, c .before .before .before .pre .1))
     (λ c. rw (through _ (c .value .ok)) (c .value .ensures)))
     (λ t. row-lts.spec (calls-row t) (row-at t) row.Post
@@ -217,12 +214,12 @@ unfolding numbers.value Fit
     (λ c κs. search needs)
     (λ c. rw (through _ (c .before .before .operand7 .ok)) (logic-first (link (c .before .before .before .before .k5 .given .0 .0)) (place t (c .before .before .before .before .before .before)) (sub t (c .before .before .before .before .before .before) (c .before .before .before .before .k5 .given .0 .1 .0)) (sub t (c .before .before .before .before .before .before) (c .before .before .before .before .k5 .given .0 .1 .1 .0)) (reads t (c .before .before .before .before .before .before)) (fit t (c .before .before .before .before .before .before) (c .before .before .before .before .k5 .given .1) .0) (c .before .before .operand7 .ensures) (rw (c .before .decided .ensures, through _ (c .before .before .operand7 .ok)) at (c .if3 .taken)) ∙ sym (means t (c .before .before .before .before .before .before) (c .before .before .before .before .k5 .given .1))))
     (λ c κs. (omega arith, fit t (c .before .before .before .before .before .before) (c .before .before .before .before .k5 .given .1) .1 .1 .1))
-    (λ c. rw (through _ (c .leaf-value .ok), c .leaf-value .ensures, known _ _ (c .before .before .before .part-at .ensures) (c .before .enum-told .given .1)) (leaf-means t (c .before .before .before) (c .before .enum-told .given .1) refl))
-    (λ c. rw (through _ (c .leaf-value2 .ok), c .leaf-value2 .ensures, known _ _ (c .before .before .before .part-at .ensures) (c .before .enum-told2 .given .1)) (leaf-means t (c .before .before .before) (c .before .enum-told2 .given .1) refl))
-    (λ c. rw (through _ (c .leaf-value3 .ok), c .leaf-value3 .ensures, known _ _ (c .before .before .before .part-at .ensures) (c .before .enum-told3 .given .1)) (leaf-means t (c .before .before .before) (c .before .enum-told3 .given .1) refl))
-    (λ c. rw (through _ (c .leaf-value4 .ok), c .leaf-value4 .ensures, known _ _ (c .before .before .before .part-at .ensures) (c .before .enum-told4 .given .1)) (leaf-means t (c .before .before .before) (c .before .enum-told4 .given .1) refl))
-    (λ c. rw (through _ (c .leaf-value5 .ok), c .leaf-value5 .ensures, known _ _ (c .before .before .before .part-at .ensures) (c .before .enum-told5 .given .1)) (leaf-means t (c .before .before .before) (c .before .enum-told5 .given .1) refl))
-    (λ c. rw (through _ (c .leaf-value6 .ok), c .leaf-value6 .ensures, known _ _ (c .before .before .before .part-at .ensures) (c .before .enum-told6 .given .1)) (leaf-means t (c .before .before .before) (c .before .enum-told6 .given .1) refl))
+    (λ c. rw (through _ (c .leaf .ok), c .leaf .ensures, known _ _ (c .before .before .before .part-at .ensures) (c .before .enum-told .given .1)) (sym (means t (c .before .before .before) (c .before .enum-told .given .1))))
+    (λ c. rw (through _ (c .leaf2 .ok), c .leaf2 .ensures, known _ _ (c .before .before .before .part-at .ensures) (c .before .enum-told2 .given .1)) (sym (means t (c .before .before .before) (c .before .enum-told2 .given .1))))
+    (λ c. rw (through _ (c .leaf3 .ok), c .leaf3 .ensures, known _ _ (c .before .before .before .part-at .ensures) (c .before .enum-told3 .given .1)) (sym (means t (c .before .before .before) (c .before .enum-told3 .given .1))))
+    (λ c. rw (through _ (c .leaf4 .ok), c .leaf4 .ensures, known _ _ (c .before .before .before .part-at .ensures) (c .before .enum-told4 .given .1)) (sym (means t (c .before .before .before) (c .before .enum-told4 .given .1))))
+    (λ c. rw (through _ (c .leaf5 .ok), c .leaf5 .ensures, known _ _ (c .before .before .before .part-at .ensures) (c .before .enum-told5 .given .1)) (sym (means t (c .before .before .before) (c .before .enum-told5 .given .1))))
+    (λ c. rw (through _ (c .leaf6 .ok), c .leaf6 .ensures, known _ _ (c .before .before .before .part-at .ensures) (c .before .enum-told6 .given .1)) (sym (means t (c .before .before .before) (c .before .enum-told6 .given .1))))
     (λ c. rw (through _ (c .flipped .ok), c .flipped .ensures, through _ (c .before .operand .ok)) (not-is (place t (c .before .before .before .before .before)) (sub t (c .before .before .before .before .before) (c .before .before .before .k .given .0 .0)) (reads t (c .before .before .before .before .before)) (fit t (c .before .before .before .before .before) (c .before .before .before .k .given .1) .0) (c .before .operand .ensures) ∙ sym (means t (c .before .before .before .before .before) (c .before .before .before .k .given .1))))
     (λ c. rw (through _ (c .operand2 .ok)) (int-is (place t (c .before .before .before .before)) (sub t (c .before .before .before .before) (c .before .before .k2 .given .0 .0)) (reads t (c .before .before .before .before)) (fit t (c .before .before .before .before) (c .before .before .k2 .given .1) .0) (c .operand2 .ensures) ∙ sym (means t (c .before .before .before .before) (c .before .before .k2 .given .1))))
     (λ c. rw (through _ (c .computed .ok), c .computed .ensures, through _ (c .before .operand4 .ok), through _ (c .before .before .before .before .operand3 .ok)) (arithmetic-is (sum (c .before .before .before .before .before .before .k3 .given .0 .0)) (place t (c .before .before .before .before .before .before .before .before)) (sub t (c .before .before .before .before .before .before .before .before) (c .before .before .before .before .before .before .k3 .given .0 .1 .0)) (sub t (c .before .before .before .before .before .before .before .before) (c .before .before .before .before .before .before .k3 .given .0 .1 .1 .0)) (reads t (c .before .before .before .before .before .before .before .before)) (fit t (c .before .before .before .before .before .before .before .before) (c .before .before .before .before .before .before .k3 .given .1) .1 .0) (fit t (c .before .before .before .before .before .before .before .before) (c .before .before .before .before .before .before .k3 .given .1) .1 .1 .0) (c .before .operand4 .ensures) (c .before .before .before .before .operand3 .ensures) ∙ sym (means t (c .before .before .before .before .before .before .before .before) (c .before .before .before .before .before .before .k3 .given .1))))

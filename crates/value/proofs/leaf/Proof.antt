@@ -1,14 +1,15 @@
 use native.Mathlib.Omega.{arith}
-use Rattle.value.proofs.Laws.{known}
+use Rattle.value.proofs.Laws.{through, known}
 use borrow.Author.Needs.{needs}
 use Rattle.value.proofs.leaf.Statement.{statement}
 use Rattle.value.proofs.leaf.Tie as tie
 use Rattle.value.proofs.leaf.Reads as reads
 use Rattle.value.proofs.leaf.Lts as lts
+use Rattle.ints.proofs.of.Reads as of-reads
 use Rattle.nodes.proofs.part_at.Reads as part-at-reads
 use Rattle.value.proofs.bit_of.Reads as bit-of-reads
-use Rattle.value.proofs.digit.Reads as digit-reads
 use Rattle.value.proofs.field_of.Reads as field-of-reads
+use Rattle.value.proofs.flag.Reads as flag-reads
 
 part-at-requires : tie.Need-part-at-requires
 part-at-requires c κs = search needs
@@ -16,14 +17,17 @@ part-at-requires c κs = search needs
 enum-known-k : tie.Need-enum-known-k
 enum-known-k c = search needs
 
-cast-result : tie.Need-cast-result
-cast-result c = search needs
+cast-of : tie.Need-cast-of
+cast-of c = search needs
+
+of-requires : tie.Need-of-requires
+of-requires c κs = search needs
 
 enum-known-k-2 : tie.Need-enum-known-k-2
 enum-known-k-2 c = search needs
 
-digit-requires : tie.Need-digit-requires
-digit-requires c κs = search needs
+flag-requires : tie.Need-flag-requires
+flag-requires c κs = search needs
 
 enum-known-k-3 : tie.Need-enum-known-k-3
 enum-known-k-3 c = search needs
@@ -68,22 +72,22 @@ enum-told-5 : tie.Need-enum-told-5
 enum-told-5 c = search needs
 
 returns : tie.Need-returns
-returns c = rw (known _ _ (c .before .before .before .part-at .ensures) (c .before .k .given .1))
+returns c = rw (through _ (c .of .ok), known _ _ (c .before .before .before .before .part-at .ensures) (c .before .before .k .given .1)) (c .of .ensures)
 
 returns-2 : tie.Need-returns-2
-returns-2 c = rw (known _ _ (c .before .before .before .before .part-at .ensures) (c .before .before .k2 .given .1)) (c .digit .ensures)
+returns-2 c = rw (through _ (c .flag .ok), known _ _ (c .before .before .before .before .part-at .ensures) (c .before .before .k2 .given .1)) (c .flag .ensures)
 
 returns-3 : tie.Need-returns-3
-returns-3 c = rw (known _ _ (c .before .before .before .before .part-at .ensures) (c .before .before .k3 .given .1)) (c .bit-of .ensures)
+returns-3 c = rw (through _ (c .bit-of .ok), known _ _ (c .before .before .before .before .part-at .ensures) (c .before .before .k3 .given .1)) (c .bit-of .ensures)
 
 returns-4 : tie.Need-returns-4
-returns-4 c = rw (known _ _ (c .before .before .before .before .part-at .ensures) (c .before .before .k4 .given .1)) (c .bit-of2 .ensures)
+returns-4 c = rw (through _ (c .bit-of2 .ok), known _ _ (c .before .before .before .before .part-at .ensures) (c .before .before .k4 .given .1)) (c .bit-of2 .ensures)
 
 returns-5 : tie.Need-returns-5
-returns-5 c = rw (known _ _ (c .before .before .before .before .part-at .ensures) (c .before .before .k5 .given .1)) (c .field-of .ensures)
+returns-5 c = rw (through _ (c .field-of .ok), known _ _ (c .before .before .before .before .part-at .ensures) (c .before .before .k5 .given .1)) (c .field-of .ensures)
 
 returns-6 : tie.Need-returns-6
-returns-6 c = rw (known _ _ (c .before .before .before .before .part-at .ensures) (c .before .before .k6 .given .1)) (c .bit-of3 .ensures)
+returns-6 c = rw (through _ (c .bit-of3 .ok), known _ _ (c .before .before .before .before .part-at .ensures) (c .before .before .k6 .given .1)) (c .bit-of3 .ensures)
 
 returns-7 : tie.Need-returns-7
 returns-7 c = absurd (rw (known _ _ (c .before .before .part-at .ensures) (c .enum-told .given .1)) at (c .before .before .before .pre))
@@ -106,9 +110,10 @@ leaf-spec =
     (tie.spec
     part-at-requires
     enum-known-k
-    cast-result
+    cast-of
+    of-requires
     enum-known-k-2
-    digit-requires
+    flag-requires
     enum-known-k-3
     bit-of-requires
     enum-known-k-4
