@@ -239,6 +239,9 @@ same-less a b h = rw h
 pub same-more : (a b : ℤ) → ltZ a b ≡ false → opposite (ltZ b a) ≡ sameWhole a b
 same-more a b h = rw h
 
+pub less-of : {x y a b : ℤ} {r : Bool} → r ≡ ltZ x y → x ≡ a → y ≡ b → r ≡ ltZ a b
+less-of e p q = rw (← p, ← q) e
+
 -- ---- leaves
 
 -- the kind that was read
