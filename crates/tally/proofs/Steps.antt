@@ -15,7 +15,7 @@ use Rattle.meaning.specs.States.{mostActivities}
 use Rattle.meaning.specs.Levels.{mostLevels, levelsIn}
 use Rattle.meaning.specs.Unexpanded.{Term, Command, Commands}
 use Rattle.meaning.specs.Base.{baseTerm}
-use Rattle.own_law.specs.Own.{Own, nothing, past, begun, closed, opened, ifLarge, ownTerm, ownAll}
+use Rattle.own_law.specs.Own.{Own, past, begun, closed, opened, ifLarge, ownTerm, ownAll}
 use Rattle.own_law.proofs.Borne.{made, bears, fits, small, isNone, Sound, Adds}
 use Rattle.own_law.proofs.Own.{term-adds}
 use Rattle.own_law.proofs.Early.{Stays, begun-stays, closed-stays, opened-stays, large-stays, term-stays}
@@ -36,8 +36,8 @@ over-on stays o e = ap (λ (r : Own). r .over) (stays o e) ∙ e
 
 -- ---- nothing is counted
 
-pub start-holds : Holds 0 startTally atStart
-start-holds = record { over = λ e. no (sym e); exact = λ e. record { few = omega arith; small = omega arith; high = λ e. omega arith; every = refl; counts = refl; acts = refl } }
+pub start-holds : (n : ℕ) → n ≤ mostLevels → Holds n startTally (atStart n)
+start-holds n h = record { over = λ e. no (sym e); exact = λ e. record { few = omega arith; small = omega arith; high = λ e. h; every = refl; counts = refl; acts = refl } }
 
 -- ---- a statement
 

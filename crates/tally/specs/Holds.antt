@@ -10,7 +10,8 @@ use Rattle.meaning.specs.States.{mostActivities}
 use Rattle.meaning.specs.Levels.{mostLevels}
 use Rattle.meaning.specs.Unexpanded.{Term, Commands, Tests, Strands}
 use Rattle.meaning.specs.Base.{baseAll, baseTests, baseEach}
-use Rattle.own_law.specs.Own.{Own, nothing, past, begun, closed, opened, ifLarge, ownTerm, ownAll, ownTests, ownEach}
+use Rattle.own_law.specs.Own.{Own, past, begun, closed, opened, ifLarge, ownTerm, ownAll, ownTests, ownEach}
+use Rattle.own_law.proofs.Around.{around}
 use Rattle.tally.specs.declared.Tally.{Tally}
 use Rattle.tally.specs.Tally.{mostCounted}
 
@@ -20,9 +21,9 @@ pub record State : Type 0 where
   pub counts : Own
   pub acts : ℕ
 
--- at the outermost call
-abbrev pub atStart : State
-atStart = record { every = nothing; counts = nothing; acts = 1 }
+-- at the outermost call, with n levels open around
+abbrev pub atStart : ℕ → State
+atStart n = record { every = around n; counts = around n; acts = 1 }
 
 -- ---- what the counts come to
 
