@@ -33,7 +33,7 @@ use Rattle.items.specs.Came.{CallAt}
 use Rattle.measure.specs.declared.Measured.{Measured}
 use Rattle.measure.specs.Counted.{Tells, MeasuredIs, MeasuredCame}
 use Rattle.gauge.specs.declared.Gauged.{Gauged}
-use Rattle.gauge.specs.Measures.{nameOf, Sized, Measures}
+use Rattle.gauge.specs.Measures.{nameOf, Measures}
 use Rattle.gauge.proofs.Acts.{none-inside, exact-kept, row-kept}
 
 -- an area is its tree and what lies behind

@@ -2,17 +2,15 @@
 -- Assumes nothing.
 use mathlib.Core.Bool.{Bool}
 use mathlib.Core.Path.{_≡_, refl, sym, _∙_, ap, subst}
-use mathlib.Core.List.{List, [], _∷_, map}
-use Prim.Native.Nat.{ℕ, zero, suc, _≤_, _<_, min}
+use mathlib.Core.List.{List, [], map}
+use Prim.Native.Nat.{ℕ, zero, suc, _≤_, _<_}
 use native.Mathlib.Omega.{arith}
 use Rattle.meaning.specs.Tree.{Name}
-use Rattle.meaning.specs.Unexpanded.{Term, Command, call, Commands, Procedure}
+use Rattle.meaning.specs.Unexpanded.{Term, call, Commands, Procedure}
 use Rattle.meaning.specs.Expansion.{Bound, moved, replaced, expand, called}
 use Rattle.language.specs.Words.{Word}
-use Rattle.language.specs.Grammar.{AfterName}
 use Rattle.language.specs.Trees.{nameAt}
-use Rattle.descent_law.specs.Rows.{StatementRow, AfterNameRow}
-use Rattle.descent_law.proofs.Statements.{after-name-told}
+use Rattle.descent_law.specs.Rows.{StatementRow}
 use Rattle.hand.specs.declared.Here.{Here}
 use Rattle.hand.specs.Along.{Stands, Near, Begins}
 use Rattle.own_law.proofs.Calls.{expansion}
@@ -20,7 +18,7 @@ use Rattle.frames_law.specs.Frames.{noPlace, toldAt, Framed}
 use Rattle.frames_law.proofs.Frames.{told-call}
 use Rattle.frames.specs.declared.Under.{Under}
 use Rattle.frames.specs.Layout.{framesOf}
-use Rattle.frames.specs.Open.{Open, Sized, Nested}
+use Rattle.frames.specs.Open.{Open}
 use Rattle.tally.specs.declared.Tally.{Tally}
 use Rattle.tally.specs.Tally.{startTally, overTally}
 use Rattle.tally.specs.Holds.{atStart, overAll, Holds}
@@ -28,7 +26,7 @@ use Rattle.tally.proofs.Steps.{start-holds}
 use Rattle.tally.proofs.Ends.{told-counts, told-every, exact-acts}
 use Rattle.measure.specs.declared.Counted.{Counted}
 use Rattle.measure.specs.declared.Measured.{Measured}
-use Rattle.measure.specs.Counted.{Known, oneOf, On, Tells, RowCame, underCall, MeasuredIs, MeasuredCame}
+use Rattle.measure.specs.Counted.{Known, Tells, RowCame, underCall, MeasuredIs, MeasuredCame}
 use Rattle.measure.proofs.Calling.{words}
 
 -- with no call open, the place told is of no account

@@ -5,7 +5,7 @@ use mathlib.Core.Path.{_≡_, refl, sym, ap, _∙_}
 use Prim.Native.Nat.{ℕ, _+_, _≤_, min, max}
 use native.Mathlib.Omega.{arith}
 use borrow.Author.Tests.{le-ltb, leb-true}
-use lib.Dec.{ltb, leb}
+use lib.Dec.{leb}
 use Rattle.meaning.specs.Clock.{activities, activitiesAll}
 use Rattle.meaning.specs.Kinds.{both}
 use Rattle.meaning.specs.Sizes.{mostStatements, mostParts}
