@@ -796,7 +796,7 @@ outermost-returns t c =
     let k₃ = k₂ .before .before .before in
     let k₄ = k₃ .before .before in
     let k₅ = k₄ .before .before .before in
-    outermost-over (k₅ .pre .1 .near) (rw (k₄ .inside .ensures) at (k₃ .measure .ensures)) (k₂ .if1 .taken) (rw (k₄ .inside .ensures, k₃ .measure .ensures .still) at (k₁ .passing .ensures))
+    outermost-over (k₅ .pre .1 .near) (k₄ .inside .ensures) (k₃ .measure .ensures) refl (k₂ .if1 .taken) (k₁ .passing .ensures)
 
 outermost-call-requires : (t : ℕ) → outermost-lts.Need-call-requires (outermost-calls t) (outermost-at t) outermost.Post
 outermost-call-requires t c κs =
@@ -827,7 +827,7 @@ outermost-returns-2 t c =
     let k₅ = k₄ .before .before .before in
     let k₆ = k₅ .before .before in
     let k₇ = k₆ .before .before .before in
-    outermost-deep (k₇ .pre .1 .near) (rw (k₆ .inside .ensures) at (k₅ .measure .ensures)) (k₄ .if1 .left) (rw (k₆ .inside .ensures, k₅ .measure .ensures .still) at (k₃ .call .ensures)) (k₂ .if2 .taken) (rw (k₆ .inside .ensures) at (k₁ .passing2 .ensures)) (c .made .ensures .0) (c .made .ensures .1)
+    outermost-deep (k₇ .pre .1 .near) (k₆ .inside .ensures) (k₅ .measure .ensures) refl (k₄ .if1 .left) (k₃ .call .ensures) (k₂ .if2 .taken) (k₁ .passing2 .ensures) (c .made .ensures .0) (c .made .ensures .1)
 
 outermost-same-length-3 : (t : ℕ) → outermost-lts.Need-same-length-3 (outermost-calls t) (outermost-at t) outermost.Post
 unfolding beside
@@ -843,7 +843,7 @@ outermost-returns-3 t c =
     let k₃ = k₂ .before .before .before in
     let k₄ = k₃ .before .before in
     let k₅ = k₄ .before .before .before in
-    outermost-flat (k₅ .pre .1 .near) (rw (k₄ .inside .ensures) at (k₃ .measure .ensures)) (k₂ .if1 .left) (rw (k₄ .inside .ensures, k₃ .measure .ensures .still) at (k₁ .call .ensures)) (c .if2 .left)
+    outermost-flat (k₅ .pre .1 .near) (k₄ .inside .ensures) (k₃ .measure .ensures) refl (k₂ .if1 .left) (k₁ .call .ensures) (c .if2 .left)
 
 abbrev parallel-calls : ℕ → parallel-lts.Claims
 parallel-calls t = (told-reads.Asked, told-reads.Learnt, begun-reads.Asked, begun-reads.Learnt, word-from-reads.Asked, word-from-reads.Learnt, with-acts-reads.Asked, with-acts-reads.Learnt, branch-below t, branch.Post, branches-below t, branches.Post, together-reads.Asked, together-reads.Learnt, finish-reads.Asked, finish-reads.Learnt)
