@@ -38,8 +38,10 @@
  *
  * Sizes. libstepper.a has 2.1 KB of code and 1 KB of constants, and no data;
  * open takes less than 1.2 KB of stack, step and outputs less than 64 bytes.
- * libcompiler.a has 38 KB of code and constants, and no data; compile recurses as
- * deep as a source nests, 32 levels at most, and takes less than 192 KB of stack.
+ * libcompiler.a has 67 KB of code and constants, and no data; compile recurses as
+ * deep as a source nests, 32 levels at most, and as deep as its calls go; it takes
+ * less than 192 KB of stack for a source without calls, and less than 640 KB for
+ * the longest chain of calls that a source can hold.
  */
 #ifndef WINDNADEL_H
 #define WINDNADEL_H
@@ -75,11 +77,13 @@ extern "C" {
  * earliest place, an offset into the source:
  * - 1: room is not 1 to 256;           - 2: work_len is below 32,768 + 64 * room;
  * - 3: source_len is above 8,192;      - 4: no word starts here, or it is too large;
- * - 5: no program goes on so;          - 6: a name unknown, or declared again;
+ * - 5: no program goes on so;          - 6: a name unknown or declared again, or a
+ *                                           call that can't be expanded;
  * - 7: a wrong kind;                   - 8: exit or break with nothing to leave;
  * - 9: a size is passed;               - 10: a number could grow too large;
  * - 11: more states than the room;     - 12: file_len is below the file's length.
- * The place is 0 for 1, 2, 3, 11 and 12. `windnadel explain N` says more.
+ * The place is 0 for 1, 2, 3, 11 and 12; of what is wrong in a procedure's body it
+ * is the call in the program's own list. `windnadel explain N` says more.
  * What the work area holds before does not matter. Refusals 1 and 2 leave it
  * alone; every other end leaves all of it, work_len bytes, zero. The three
  * areas must not overlap. A room of 256 and buffers of WINDNADEL_WORK(256) and

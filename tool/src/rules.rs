@@ -66,10 +66,11 @@ const RULES: [Rule; 14] = [
         },
     },
     Rule {
-        title: "a name is unknown, or declared again",
-        place: "the name",
-        rule: "a name is declared once, before the statements; upper and lower case are different",
-        right: "declare it once, before the first statement",
+        title: "a name is unknown or declared again, or a call can't be expanded",
+        place: "the name, of a call too; the call in the program's own list, for all that it stands for",
+        rule: "a name is declared once, before the statements; upper and lower case are different; a call names a procedure \
+               declared before it, with an actual for each formal, a name where the formal is changed or indexed",
+        right: "declare it once, before the first statement; a procedure before the bodies that call it",
         example: Example::Programs {
             refused: "program p; integer sum[8]; sum := sum-5 endprog",
             right: "program p; integer sum[8]; sum := sum - 5 endprog",
@@ -77,7 +78,8 @@ const RULES: [Rule; 14] = [
     },
     Rule {
         title: "a wrong kind, a changed input, or a bit outside its integer",
-        place: "the operator, `int`, `if`, `while` or `case`; `raise`, `lower` or `invert`; the assigned or indexed name",
+        place: "the operator, `int`, `if`, `while` or `case`; `raise`, `lower` or `invert`; the assigned or indexed name; the \
+                call, for what it stands for",
         rule: "operators and statements take booleans or integers, each its own kind; inputs are never changed; a bit's \
                number is below its integer's width",
         right: "`int(..)` makes a number of a boolean, a comparison makes a boolean of two numbers",
@@ -88,7 +90,7 @@ const RULES: [Rule; 14] = [
     },
     Rule {
         title: "nothing to leave",
-        place: "the word `exit` or `break`",
+        place: "the word `exit` or `break`; the call, where that stands in its body",
         rule: "`exit` leaves the smallest loop around it, `break` the smallest switch or parallel, and there must be one",
         right: "put a loop, or a switch or parallel, around it",
         example: Example::Programs {
@@ -98,9 +100,10 @@ const RULES: [Rule; 14] = [
     },
     Rule {
         title: "a size is passed",
-        place: "the first name, number, statement or part too many; the `parallel` with too many activities",
+        place: "the first name, number, statement or part too many; the `parallel` with too many activities; the call with \
+                whose body a size is passed",
         rule: "at most 6 inputs, 16 outputs, 32 bits that are no inputs, 255 statements, 1,024 parts of expressions, a delay \
-               of 255 and 8 activities at once; widths are 1 to 16",
+               of 255 and 8 activities at once, calls expanded, and then 32 levels too; widths are 1 to 16",
         right: "do with less, or make two machines of it",
         example: Example::Programs {
             refused: "program p; integer x[17]; x := 1 endprog",
@@ -109,7 +112,7 @@ const RULES: [Rule; 14] = [
     },
     Rule {
         title: "a number could grow too large",
-        place: "the operator",
+        place: "the operator; the call, where that stands in its body",
         rule: "no operator's result may be able to pass 2,147,483,647, reckoned from the widths and numbers in it",
         right: "take narrower integers or smaller numbers, or do it in two assignments",
         example: Example::Programs {

@@ -40,6 +40,17 @@ fn name_length(text: &[u8]) -> usize {
     (0..text.len()).take_while(belongs).count()
 }
 
+/// Reserved words that begin with a letter and can stand in a statement list.
+const RESERVED: &str =
+    "skip delay raise lower invert if then else endif while do loop endloop exit switch case default \
+                        endswitch break parallel endparallel true false int";
+
+/// Is this word of a statement list a name?
+pub fn may_name(word: &[u8]) -> bool {
+    word.first().is_some_and(u8::is_ascii_alphabetic)
+        && !RESERVED.split(' ').any(|reserved| reserved.as_bytes() == word)
+}
+
 pub fn is_blank(byte: u8) -> bool {
     matches!(byte, b' ' | b'\t' | b'\n' | b'\r')
 }

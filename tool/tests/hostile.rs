@@ -2,7 +2,7 @@
 
 mod common;
 
-use common::{generated, tool_with, yardstick, Folder};
+use common::{generated, tool_with, yardstick, Folder, STREAMS};
 
 /// Bytes that look like a terminal's worst, made the same in every run.
 fn noise(seed: u64, length: usize) -> Vec<u8> {
@@ -61,7 +61,7 @@ fn programs_cut_anywhere_are_told() {
 
 #[test]
 fn damaged_programs_are_told() {
-    for source in generated(2027, 200) {
+    for source in STREAMS.iter().flat_map(|stream| generated(stream, 2027, 200)) {
         is_told(&source);
     }
 }
@@ -73,6 +73,15 @@ fn long_texts_are_cut() {
     is_told(&[b"program p; skip".to_vec(), vec![b' '; 8_000], b"skip".to_vec()].concat());
     is_told(&[b"program p; ".to_vec(), b"loop ".repeat(1_600)].concat());
     is_told(&[b"program p; skip".to_vec(), b"\n".repeat(8_170)].concat());
+    is_told(&[b"program p; w(".to_vec(), b"1,".repeat(4_000), b"1) endprog".to_vec()].concat());
+    is_told(
+        &[b"program p; procedure w(a".to_vec(), b",a".repeat(4_000), b") skip endproc w() endprog".to_vec()].concat(),
+    );
+    is_told(
+        &[b"program p; procedure w(a) raise(a) endproc w(1".to_vec(), b"+1".repeat(4_000), b") endprog".to_vec()]
+            .concat(),
+    );
+    is_told(&[b"program p; ".to_vec(), b"procedure w() w() endproc ".repeat(300), b"w() endprog".to_vec()].concat());
 }
 
 #[test]

@@ -4,7 +4,7 @@ mod common;
 
 use std::fs;
 
-use common::{example, examples, generated, tool, tool_with, yardstick};
+use common::{example, examples, generated, tool, tool_with, yardstick, STREAMS};
 
 #[test]
 fn examples_have_their_listings() {
@@ -19,7 +19,7 @@ fn examples_have_their_listings() {
 #[test]
 fn generated_programs_list_alike() {
     let mut refused = 0;
-    for source in generated(12, 300) {
+    for source in STREAMS.iter().flat_map(|stream| generated(stream, 12, 300)) {
         let said = tool_with(&["list", "-"], &source);
         let expected = String::from_utf8(yardstick(&["list"], &source)).unwrap();
         assert_eq!(said.out, expected, "{}", String::from_utf8_lossy(&source));
@@ -27,7 +27,19 @@ fn generated_programs_list_alike() {
         assert_eq!((said.status, said.err.is_empty()), (Some(i32::from(is_refused)), !is_refused));
         refused += usize::from(is_refused);
     }
-    assert!((50..250).contains(&refused), "{refused} of 300 were refused");
+    assert!((100..500).contains(&refused), "{refused} of 600 were refused");
+}
+
+#[test]
+fn with_procedures_the_same_machines() {
+    let names = examples();
+    let with: Vec<&str> = names.iter().filter_map(|name| name.strip_suffix("-procedures")).collect();
+    assert!(with.len() >= 3);
+    for name in with {
+        let [one, other] =
+            ["", "-procedures"].map(|end| tool(&[&"list".into(), &example(&format!("{name}{end}.csml"))]));
+        assert_eq!(one, other, "{name}");
+    }
 }
 
 #[test]

@@ -108,9 +108,7 @@ impl Clock<'_> {
         let from = from.filter(|stand| stand.point != statement.points.start || stand.left > 0);
         match &statement.kind {
             StatementKind::Skip => Outcome::Waits(Tries::NONE, After::Ended),
-            StatementKind::Delay { clocks, .. } => {
-                self.delay(statement, from.map_or(*clocks, |stand| u16::from(stand.left)))
-            }
+            StatementKind::Delay(clocks) => self.delay(statement, from.map_or(*clocks, |stand| u16::from(stand.left))),
             StatementKind::Change(change, target) => Outcome::Waits(self.change(*change, target), After::Ended),
             StatementKind::Assign(variable, value) => Outcome::Waits(self.assign(*variable, value), After::Ended),
             StatementKind::If { test, then, otherwise } => self.if_statement(test, then, otherwise, from),

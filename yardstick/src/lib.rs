@@ -1,4 +1,4 @@
-//! An ordinary compiler for the base language: text to table file, as the required build's document has it.
+//! An ordinary compiler for the base language with procedures: text to table file, as the required build's document has it.
 //!
 //! Nothing here is proved. It is a second opinion, written for readers and for comparison: each rule stands beside the
 //! sentence it follows, in quotation marks.
@@ -7,6 +7,7 @@ pub mod batch;
 pub mod check;
 pub mod clock;
 pub mod crc;
+pub mod expand;
 pub mod file;
 pub mod gen;
 pub mod listing;
@@ -17,6 +18,7 @@ pub mod state;
 pub mod tree;
 pub mod value;
 pub mod words;
+pub mod written;
 
 use refusal::Refusal;
 use search::Table;
@@ -51,7 +53,7 @@ pub const fn work_needed(room: u64) -> u64 {
 /// A program that was compiled.
 #[derive(Debug)]
 pub struct Compiled {
-    /// Its tree.
+    /// Its tree, all calls expanded.
     pub program: Program,
     /// Its table.
     pub table: Table,
@@ -83,8 +85,9 @@ pub fn compile(source: &[u8], lent: Lent) -> Result<Compiled, Refusal> {
         return Err(Refusal::at(3, 0));
     }
     let words = words::words(source)?;
-    let program = parse::parse(source, &words)?;
-    check::check(&program)?;
+    let written = parse::parse(source, &words)?;
+    check::check(&written)?;
+    let program = expand::expand(written);
     let table = search::search(&program, lent.room as usize)?;
     let file = file::write(&table);
     if lent.buffer < file.len() as u64 {

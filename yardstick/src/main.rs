@@ -11,6 +11,7 @@ const USAGE: &str = "usage: yardstick list < SOURCE
        yardstick file < SOURCE > TABLE
        yardstick batch < RECORDS
        yardstick gen SEED COUNT > RECORDS
+       yardstick gen-procedures SEED COUNT > RECORDS
        yardstick sources DIRECTORY < RECORDS
        yardstick read FILE..
 a record is a line `LEN ROOM WORK BUF`, LEN bytes of source, and one LF";
@@ -25,7 +26,11 @@ fn main() -> ExitCode {
         ["sources", directory] => sources(directory),
         ["read", ref files @ ..] => read(files),
         ["gen", seed, count] => match (seed.parse(), count.parse()) {
-            (Ok(seed), Ok(count)) => generate(seed, count),
+            (Ok(seed), Ok(count)) => generate(gen::records(seed), count),
+            _ => return usage(),
+        },
+        ["gen-procedures", seed, count] => match (seed.parse(), count.parse()) {
+            (Ok(seed), Ok(count)) => generate(gen::records_with_procedures(seed), count),
             _ => return usage(),
         },
         _ => return usage(),
@@ -103,11 +108,11 @@ fn read(files: &[&str]) -> io::Result<ExitCode> {
     Ok(ExitCode::SUCCESS)
 }
 
-fn generate(seed: u64, count: u64) -> io::Result<ExitCode> {
-    let mut records = io::BufWriter::new(io::stdout().lock());
-    for record in gen::records(seed).take(count as usize) {
-        record.write(&mut records)?;
+fn generate(records: impl Iterator<Item = Record>, count: usize) -> io::Result<ExitCode> {
+    let mut written = io::BufWriter::new(io::stdout().lock());
+    for record in records.take(count) {
+        record.write(&mut written)?;
     }
-    records.flush()?;
+    written.flush()?;
     Ok(ExitCode::SUCCESS)
 }

@@ -1,8 +1,9 @@
-//! The tree of a program: "Each statement keeps its place and its kind, with that kind's particulars."
+//! The tree of an expanded program, which the clock runs: no calls, no formals, every name looked up.
 
 use std::ops::Range;
 
-/// "Places are places in the text": the number of a statement or case test, counted in text order.
+/// "Places are places in the text", and "a place in the text includes the chain of calls that led there": the number of a
+/// statement or case test, counted in the order of the expanded text.
 pub type Point = u16;
 
 /// A whole program.
@@ -25,8 +26,6 @@ pub struct Declaration {
     pub name: String,
     /// The name's place.
     pub place: usize,
-    /// Whether an earlier declaration has the same name.
-    pub again: bool,
     /// Which declaration it stands in.
     pub class: Class,
     /// What its name means in the program.
@@ -50,7 +49,7 @@ pub enum Class {
 }
 
 /// What a name in an expression or a statement stands for.
-#[derive(Clone, Copy, PartialEq, Eq, Debug)]
+#[derive(Clone, Copy, PartialEq, Eq, Hash, Debug)]
 pub enum Variable {
     /// No declaration has this name.
     Unknown,
@@ -73,8 +72,6 @@ pub type List = Vec<Statement>;
 /// A statement.
 #[derive(Debug)]
 pub struct Statement {
-    /// The offset of its first word.
-    pub place: usize,
     /// Its own number first, then those of everything inside it.
     pub points: Range<Point>,
     /// The activities it may use; as long as it is one activity, the first of them.
@@ -88,10 +85,7 @@ pub struct Statement {
 #[allow(missing_docs)]
 pub enum StatementKind {
     Skip,
-    Delay {
-        clocks: u16,
-        place: usize,
-    },
+    Delay(u16),
     Change(Change, Target),
     Assign(Variable, Expr),
     If {
@@ -125,8 +119,6 @@ pub enum Change {
 /// What `raise`, `lower` or `invert` changes: "a boolean or an integer's bit".
 #[derive(Debug)]
 pub struct Target {
-    /// The name's place.
-    pub place: usize,
     /// What the name stands for.
     pub variable: Variable,
     /// The number in the brackets, if there are any.
@@ -136,8 +128,6 @@ pub struct Target {
 /// One case of a switch.
 #[derive(Debug)]
 pub struct Case {
-    /// The place of the word `case`.
-    pub place: usize,
     /// The test's own number first, then those of the list.
     pub points: Range<Point>,
     /// The test.
@@ -157,17 +147,8 @@ pub struct Branch {
 
 /// An expression.
 #[derive(Debug)]
-pub struct Expr {
-    /// The offset of its first word, parentheses aside.
-    pub place: usize,
-    /// What it is.
-    pub kind: ExprKind,
-}
-
-/// The kinds of expressions.
-#[derive(Debug)]
 #[allow(missing_docs)]
-pub enum ExprKind {
+pub enum Expr {
     Number(u16),
     Truth(bool),
     Name(Variable),
@@ -181,8 +162,6 @@ pub enum ExprKind {
 /// An operator in a row and its right operand.
 #[derive(Debug)]
 pub struct Link {
-    /// The operator's place.
-    pub place: usize,
     /// The operator.
     pub operator: Operator,
     /// The right operand.

@@ -1,6 +1,6 @@
 //! The value of an expression.
 
-use crate::tree::{Expr, ExprKind, Operator, Variable};
+use crate::tree::{Expr, Operator, Variable};
 
 /// "All reads in a clock see the values at its start and the clock's inputs."
 #[derive(Clone, Copy)]
@@ -21,18 +21,18 @@ impl Reads {
     /// every value within 32 bits.
     pub fn value(&self, expression: &Expr) -> i64 {
         let bit = |number: u32, bit: u32| i64::from(number >> bit & 1);
-        match &expression.kind {
-            ExprKind::Number(value) => i64::from(*value),
-            ExprKind::Truth(value) => i64::from(*value),
-            ExprKind::Name(Variable::Input(at)) => bit(self.input, *at),
-            ExprKind::Name(Variable::Boolean(at)) => bit(self.word, *at),
-            ExprKind::Name(Variable::Integer { low, width }) => i64::from(self.word >> low & low_bits(*width)),
-            ExprKind::Bit(Variable::Integer { low, .. }, index) => bit(self.word, low + index),
+        match expression {
+            Expr::Number(value) => i64::from(*value),
+            Expr::Truth(value) => i64::from(*value),
+            Expr::Name(Variable::Input(at)) => bit(self.input, *at),
+            Expr::Name(Variable::Boolean(at)) => bit(self.word, *at),
+            Expr::Name(Variable::Integer { low, width }) => i64::from(self.word >> low & low_bits(*width)),
+            Expr::Bit(Variable::Integer { low, .. }, index) => bit(self.word, low + index),
             // The check has refused unknown names, and bits of what is no integer.
-            ExprKind::Name(Variable::Unknown) | ExprKind::Bit(..) => 0,
-            ExprKind::Int(operand) => self.value(operand),
-            ExprKind::Not(operand) => i64::from(!self.truth(operand)),
-            ExprKind::Row(first, links) => {
+            Expr::Name(Variable::Unknown) | Expr::Bit(..) => 0,
+            Expr::Int(operand) => self.value(operand),
+            Expr::Not(operand) => i64::from(!self.truth(operand)),
+            Expr::Row(first, links) => {
                 links.iter().fold(self.value(first), |left, link| apply(link.operator, left, self.value(&link.operand)))
             }
         }

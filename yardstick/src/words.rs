@@ -32,6 +32,7 @@ pub enum Kind {
     EndIf,
     EndLoop,
     EndParallel,
+    EndProc,
     EndProg,
     EndSwitch,
     Equal,
@@ -57,6 +58,7 @@ pub enum Kind {
     Output,
     Parallel,
     Plus,
+    Procedure,
     Program,
     Raise,
     Remainder,
@@ -71,7 +73,7 @@ pub enum Kind {
     While,
 }
 
-/// Sorted, to be searched. Reserved are "procedure endproc process processtype endtype compress endcompress".
+/// Sorted, to be searched. Reserved are still "process processtype endtype compress endcompress".
 const KEYWORDS: &[(&[u8], Kind)] = &[
     (b"break", Kind::Break),
     (b"case", Kind::Case),
@@ -84,7 +86,7 @@ const KEYWORDS: &[(&[u8], Kind)] = &[
     (b"endif", Kind::EndIf),
     (b"endloop", Kind::EndLoop),
     (b"endparallel", Kind::EndParallel),
-    (b"endproc", Kind::Reserved),
+    (b"endproc", Kind::EndProc),
     (b"endprog", Kind::EndProg),
     (b"endswitch", Kind::EndSwitch),
     (b"endtype", Kind::Reserved),
@@ -100,7 +102,7 @@ const KEYWORDS: &[(&[u8], Kind)] = &[
     (b"lower", Kind::Lower),
     (b"output", Kind::Output),
     (b"parallel", Kind::Parallel),
-    (b"procedure", Kind::Reserved),
+    (b"procedure", Kind::Procedure),
     (b"process", Kind::Reserved),
     (b"processtype", Kind::Reserved),
     (b"program", Kind::Program),

@@ -33,7 +33,17 @@ fn stored_listings() {
             seen += 1;
         }
     }
-    assert!(seen >= 7);
+    assert!(seen >= 10);
+}
+
+#[test]
+fn with_procedures_the_same_machines() {
+    for name in ["soda", "blackjack", "card"] {
+        let [written_out, with_procedures] = [example(name), example(&format!("{name}-procedures"))];
+        let listings = [&written_out, &with_procedures].map(|compiled| listing(&compiled.program, &compiled.table));
+        assert_eq!(listings[0], listings[1], "{name}");
+        assert_eq!(written_out.file, with_procedures.file, "{name}");
+    }
 }
 
 /// How many states are left when equal ones are merged: states with other outputs, or that lead to states that differ,

@@ -1,9 +1,9 @@
-//! Twenty thousand generated records.
+//! Twenty thousand generated records, and as many with procedures.
 
 use std::collections::BTreeMap;
 use std::io::BufReader;
 
-use yardstick::batch::Record;
+use yardstick::batch::{hash, Record};
 use yardstick::file::{open, step};
 use yardstick::refusal::Refusal;
 use yardstick::{compile, gen};
@@ -26,10 +26,10 @@ fn file_follows_table(record: &Record) {
     }
 }
 
-#[test]
-fn records_of_every_kind() {
+/// How often each answer occurs among the records.
+fn answers(records: impl Iterator<Item = Record>) -> BTreeMap<String, usize> {
     let mut kinds: BTreeMap<String, usize> = BTreeMap::new();
-    for (at, record) in gen::records(1).take(RECORDS).enumerate() {
+    for (at, record) in records.take(RECORDS).enumerate() {
         let answer = record.answer();
         let kind = answer.split(" at").next().unwrap().to_string();
         let kind = if kind.starts_with("ok") { "ok".to_string() } else { kind };
@@ -38,11 +38,36 @@ fn records_of_every_kind() {
             file_follows_table(&record);
         }
     }
+    kinds
+}
+
+#[test]
+fn records_of_every_kind() {
+    let kinds = answers(gen::records(1));
     let refusals = (1..=12).map(|number| format!("refused {number}"));
     for kind in refusals.chain(["ok".to_string()]) {
         assert!(kinds.get(&kind).is_some_and(|&count| count >= 20), "{kind}: {kinds:?}");
     }
     assert!(kinds["ok"] > RECORDS / 3, "{kinds:?}");
+}
+
+#[test]
+fn records_with_procedures_of_every_kind() {
+    let kinds = answers(gen::records_with_procedures(1));
+    for kind in (4..=11).map(|number| format!("refused {number}")).chain(["ok".to_string()]) {
+        assert!(kinds.get(&kind).is_some_and(|&count| count >= 50), "{kind}: {kinds:?}");
+    }
+    assert!(kinds["ok"] > RECORDS / 3, "{kinds:?}");
+}
+
+/// The old streams are what stored outputs and other tests stand on.
+#[test]
+fn records_without_procedures_are_as_they_were() {
+    let mut bytes = Vec::new();
+    for record in gen::records(2026).take(2_000) {
+        record.write(&mut bytes).unwrap();
+    }
+    assert_eq!(hash(&bytes), 0x8ef4_b2ea_3daf_84c1);
 }
 
 #[test]

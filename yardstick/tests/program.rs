@@ -57,11 +57,14 @@ fn generated_records_are_the_same_for_the_same_seed() {
     assert_eq!(records, run(&["gen", "7", "50"], b"").stdout);
     assert_ne!(records, run(&["gen", "8", "50"], b"").stdout);
     assert_eq!(text(&["batch"], &records).lines().count(), 50);
+    let with_procedures = run(&["gen-procedures", "7", "50"], b"").stdout;
+    assert_eq!(with_procedures, run(&["gen-procedures", "7", "50"], b"").stdout);
+    assert_eq!(text(&["batch"], &with_procedures).lines().count(), 50);
 }
 
 #[test]
 fn anything_else_is_told_how() {
-    for arguments in [&[][..], &["list", "x"], &["gen", "1"], &["gen", "a", "1"]] {
+    for arguments in [&[][..], &["list", "x"], &["gen", "1"], &["gen", "a", "1"], &["gen-procedures", "1", "a"]] {
         let output = run(arguments, b"");
         assert_eq!(output.status.code(), Some(2));
         assert!(output.stderr.starts_with(b"usage: "));

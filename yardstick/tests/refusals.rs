@@ -88,7 +88,6 @@ fn no_program_continues_so() {
             "program p; ^; skip endprog",
             "program p; skip ^skip endprog",
             "program p; skip; ^input A; skip endprog",
-            "program p; ^procedure w() skip endproc; skip endprog",
             "program p; ^compress skip endcompress endprog",
             "program p; ^process q; skip endprog",
             "program p; output ^processtype; skip endprog",

@@ -2,7 +2,7 @@
 
 use yardstick::state::State;
 use yardstick::tree::{Class, Program};
-use yardstick::{clock, parse, words};
+use yardstick::{clock, expand, parse, words};
 
 use crate::rounds;
 
@@ -39,7 +39,8 @@ fn inputs(bits: usize) -> Vec<u8> {
 }
 
 pub fn measured(name: &str, source: &[u8]) {
-    let program = words::words(source).and_then(|words| parse::parse(source, &words)).expect("an example is a program");
+    let written = words::words(source).and_then(|words| parse::parse(source, &words)).expect("an example is a program");
+    let program = expand::expand(written);
     let inputs = inputs(program.declarations.iter().filter(|declaration| declaration.class == Class::Input).count());
     assert_eq!(proved(source, &inputs), plain(&program, &inputs), "{name}");
     // The proved call reads its source first: what that takes is taken off.

@@ -13,7 +13,11 @@ pub fn machines() -> [(&'static str, &'static [u8]); 3] {
 }
 
 pub fn all() -> Vec<(&'static str, Vec<u8>)> {
-    let made = [("8,192 bytes", refused_late()), ("256 states, 64 inputs", many_states())];
+    let made = [
+        ("soda, with procedures", include_bytes!("../../../examples/soda-procedures.csml").to_vec()),
+        ("8,192 bytes", refused_late()),
+        ("256 states, 64 inputs", many_states()),
+    ];
     machines().map(|(name, source)| (name, source.to_vec())).into_iter().chain(made).collect()
 }
 

@@ -1,4 +1,3 @@
-pub mod Declared
 pub mod Places
 pub mod Compile
 pub mod Files

@@ -2,28 +2,30 @@
 -- Assumes nothing.
 use mathlib.Core.Bool.{Bool, true, false, cond}
 use mathlib.Core.Path.{_≡_, refl, sym, _∙_, ap, subst}
-use mathlib.Core.List.{List, [], _∷_, _++_}
+use mathlib.Core.List.{List, [], _∷_, _++_, map}
 use Prim.Native.Nat.{ℕ, zero, suc, _+_, _-_, _≤_, _<_}
 use native.Mathlib.Omega.{arith}
+use native.Mathlib.Decide.{decLt}
 use lib.Dec.{eqb}
 use lib.ListN.{length}
-use borrow.Author.Tests.{ne-eqb, eqb-true, ltb-false}
+use borrow.Author.Tests.{ne-eqb, eqb-true, eqb-false, ltb-false}
 use Rattle.ll1.proofs.Tests.{has, beginRow, pick}
 use Rattle.meaning.specs.Declared as declared
-use Rattle.meaning.specs.Declared.{Declaration, inputs, outputs, internals, integers, asBit, Source}
+use Rattle.meaning.specs.Declared.{Declaration, inputs, outputs, internals, integers, asBit}
+use Rattle.meaning.specs.Unexpanded.{aVariable, aProcedure, Commands, Unexpanded}
 use Rattle.language.specs.Words.{name, number, Word, signs, reserved, tooLarge}
-use Rattle.language.specs.Grammar.{Program, Statements, Declarations, MoreInputs, MoreBooleans, MoreIntegers, Ending, BooleanStart, BooleanValue, IntegerStart, binding, csml}
+use Rattle.language.specs.Grammar.{Program, Statements, Declarations, AfterProcedure, MoreInputs, MoreBooleans, MoreIntegers, Ending, BooleanStart, BooleanValue, IntegerStart, binding, csml, mostLevels}
 use Rattle.language.specs.Grammar as grammar
-use Rattle.meaning.specs.Tree.{Stmts}
 use Rattle.language.specs.Trees.{Name, nameAt, numberAt}
+use Rattle.names.specs.declared.Item.{Item}
 use Rattle.language.proofs.Claims.{claims, first, empty, follow}
 use Rattle.words.specs.Kinds.{numbered, spellings, kindCount}
 use Rattle.words.specs.Runs.{part}
 use Rattle.spellings.proofs.Parts.{part-length}
 use Rattle.words.proofs.Only.{numberOf, number-back}
 use Rattle.descent_law.specs.Told.{Told}
-use Rattle.descent_law.specs.Declarations.{Declared, Maker, DeclarationsRow, DeclarationRow, MoreInputsRow, MoreBooleansRow, MoreIntegersRow, EndingRow, BooleanStartRow, BooleanValueRow, IntegerStartRow}
-use Rattle.descent_law.proofs.Declarations.{program-told, declarations-told, declaration-told, inputs-told, more-inputs-told, ending-told, booleans-told, more-booleans-told, boolean-start-told, boolean-value-told, integers-told, more-integers-told, integer-start-told}
+use Rattle.descent_law.specs.Declarations.{Declared, Maker, DeclarationsRow, DeclarationRow, AfterProcedureRow, MoreInputsRow, MoreBooleansRow, MoreIntegersRow, EndingRow, BooleanStartRow, BooleanValueRow, IntegerStartRow}
+use Rattle.descent_law.proofs.Declarations.{program-told, declarations-told, declaration-told, after-procedure-told, inputs-told, more-inputs-told, ending-told, booleans-told, more-booleans-told, boolean-start-told, boolean-value-told, integers-told, more-integers-told, integer-start-told}
 use Rattle.hand.specs.declared.Here.{Here}
 use Rattle.hand.specs.Along.{Along, Same, Stands, Near, Begins}
 use Rattle.hand.proofs.Chosen.{upTo, agrees, Decides, called-row}
@@ -31,8 +33,10 @@ use Rattle.names.specs.Look.{valueOf, secondOf, widthAt}
 use Rattle.decls.specs.declared.At.{At}
 use Rattle.decls.specs.declared.Started.{Started}
 use Rattle.decls.specs.declared.Named.{Named}
-use Rattle.decls.specs.Left.{listOf, Listed, More, Names, LeftBy, Left}
-use Rattle.decls.specs.Came.{Is, Ended, BooleanStarted, IntegerStarted, NamedOne, NamedCame, Opened, Stepped, StepCame, Ready, Begun, BeginCame}
+use Rattle.decls.specs.Left.{Several, listOf, Listed, More, Names, Proceeds, LeftBy, Left}
+use Rattle.decls.specs.Came.{Is, Ended, BooleanStarted, IntegerStarted, NamedOne, NamedCame, Quiet, Reached, After, Opened, Stepped, StepCame, Ready, Begun, BeginCame}
+use Rattle.decls.proofs.Again.{along-place}
+use Rattle.decls.proofs.Quiet.{procedure-whole}
 
 abbrev Text : Type 0
 Text = List Word
@@ -64,7 +68,7 @@ all-truths : Decides BooleanValue truthRow
 unfolding has beginRow pick csml binding claims first empty follow agrees upTo numbered spellings signs reserved
 all-truths = refl
 
-abbrev moreRow : ℕ → ℕ
+abbrev pub moreRow : ℕ → ℕ
 moreRow k = cond (eqb k 13) 1 0
 
 all-more-inputs : Decides MoreInputs moreRow
@@ -80,7 +84,7 @@ unfolding has beginRow pick csml binding claims first empty follow agrees upTo n
 all-more-integers = refl
 
 abbrev listsRow : ℕ → ℕ
-listsRow k = cond (eqb (listOf k) 0) 0 1
+listsRow k = cond (eqb (listOf k) 0) 0 (cond (eqb (listOf k) 5) 2 1)
 
 all-lists : Decides Declarations listsRow
 unfolding has beginRow pick csml binding claims first empty follow agrees upTo numbered spellings signs reserved listOf
@@ -212,9 +216,12 @@ module _ {s : List ℕ} {h : Here} (n : Near s h) where
 
 -- ---- a declared name
 
+pub word-end : {s : List ℕ} {h : Here} {w : Word} → Near s h → Same s h w → h .next ≡ w .place + length (w .bytes)
+word-end {s} {h} n st = omega (arith, part-length s (h .place) (h .next), ap length (st .bytes), st .place, n .on, n .inside)
+
 module _ {s : List ℕ} {h : Here} {w : Word} (n : Near s h) (st : Same s h w) (k : w .kind ≡ name) where
   end-is : h .next ≡ w .place + length (w .bytes)
-  end-is = omega (arith, part-length s (h .place) (h .next), ap length (st .bytes), st .place, n .on, n .inside)
+  end-is = word-end n st
 
   lies-bytes : part s (w .place) (w .place + length (w .bytes)) ≡ w .bytes
   lies-bytes = rw (← end-is, ← st .place) (st .bytes)
@@ -306,22 +313,42 @@ module _ {s : List ℕ} {h after : Here} (n : Near s h) (b : Begins s (h .next) 
 
 -- ---- behind a `;`
 
-list-test : (k : ℕ) → (listOf k ≤ 4) × (¬ (listOf k ≡ 0) → k < kindCount)
-unfolding listOf
-list-test k = go (eqb k 28) (eqb k 29) (eqb k 30) (eqb k 31) refl refl refl refl
-  where
-    go : (a b c d : Bool) → eqb k 28 ≡ a → eqb k 29 ≡ b → eqb k 30 ≡ c → eqb k 31 ≡ d → (cond a 1 (cond b 2 (cond c 3 (cond d 4 0))) ≤ 4) × (¬ (_≡_ {A = ℕ} (cond a 1 (cond b 2 (cond c 3 (cond d 4 0)))) 0) → k < kindCount)
-    go true b c d e f g h = (omega arith, λ z. omega (arith, eqb-true k 28 e))
-    go false true c d e f g h = (omega arith, λ z. omega (arith, eqb-true k 29 f))
-    go false false true d e f g h = (omega arith, λ z. omega (arith, eqb-true k 30 g))
-    go false false false true e f g h = (omega arith, λ z. omega (arith, eqb-true k 31 h))
-    go false false false false e f g h = (omega arith, λ z. absurd (z refl))
+abbrev picked : Bool → Bool → Bool → Bool → Bool → ℕ
+picked a b c d e = cond a 1 (cond b 2 (cond c 3 (cond d 4 (cond e 5 0))))
 
-pub list-low : (k : ℕ) {l : ℕ} → l ≡ listOf k → l ≤ 4
+list-test : (k : ℕ) → (listOf k ≤ 5) × (¬ (listOf k ≡ 0) → k < kindCount)
+unfolding listOf
+list-test k = go (eqb k 28) (eqb k 29) (eqb k 30) (eqb k 31) (eqb k 56) refl refl refl refl refl
+  where
+    go : (a b c d i : Bool) → eqb k 28 ≡ a → eqb k 29 ≡ b → eqb k 30 ≡ c → eqb k 31 ≡ d → eqb k 56 ≡ i → (picked a b c d i ≤ 5) × (¬ (picked a b c d i ≡ 0) → k < kindCount)
+    go true b c d i e f g h j = (omega arith, λ z. omega (arith, eqb-true k 28 e))
+    go false true c d i e f g h j = (omega arith, λ z. omega (arith, eqb-true k 29 f))
+    go false false true d i e f g h j = (omega arith, λ z. omega (arith, eqb-true k 30 g))
+    go false false false true i e f g h j = (omega arith, λ z. omega (arith, eqb-true k 31 h))
+    go false false false false true e f g h j = (omega arith, λ z. omega (arith, eqb-true k 56 j))
+    go false false false false false e f g h j = (omega arith, λ z. absurd (z refl))
+
+pub list-low : (k : ℕ) {l : ℕ} → l ≡ listOf k → l ≤ 5
 list-low k e = omega (arith, e, list-test k .0)
 
 pub list-known : (k : ℕ) {l : ℕ} → l ≡ listOf k → ¬ (l ≡ 0) → k < kindCount
 list-known k e z = list-test k .1 (λ q. z (e ∙ q))
+
+names-left : (s : List ℕ) (l : ℕ) (h : Here) (ds : Several) (rest : Text) → 1 ≤ l → l ≤ 4 → LeftBy s l h ds rest → Names s l h ds rest
+names-left s zero h ds rest g m x = absurd (omega arith)
+names-left s (suc zero) h ds rest g m x = x
+names-left s (suc (suc zero)) h ds rest g m x = x
+names-left s (suc (suc (suc zero))) h ds rest g m x = x
+names-left s (suc (suc (suc (suc zero)))) h ds rest g m x = x
+names-left s (suc (suc (suc (suc (suc l))))) h ds rest g m x = absurd (omega arith)
+
+left-names : (s : List ℕ) (l : ℕ) (h : Here) (ds : Several) (rest : Text) → 1 ≤ l → l ≤ 4 → Names s l h ds rest → LeftBy s l h ds rest
+left-names s zero h ds rest g m x = absurd (omega arith)
+left-names s (suc zero) h ds rest g m x = x
+left-names s (suc (suc zero)) h ds rest g m x = x
+left-names s (suc (suc (suc zero))) h ds rest g m x = x
+left-names s (suc (suc (suc (suc zero)))) h ds rest g m x = x
+left-names s (suc (suc (suc (suc (suc l))))) h ds rest g m x = absurd (omega arith)
 
 listed-by : (j f k : ℕ) (ws : Text) (ds : Declared) (rest : Text) → DeclarationRow f k ws ds rest j → (w : Word) × (tail : Text) × (ws ≡ w ∷ tail) × Listed (suc j) f k tail ds rest
 listed-by zero f k ws ds rest (w, tail, a, x) = (w, tail, a, x)
@@ -337,31 +364,48 @@ module _ {s : List ℕ} {h : Here} (n : Near s h) {l : ℕ} (e : l ≡ listOf (h
       zero-row : listsRow (h .kind) ≡ 0
       zero-row = let q : listOf (h .kind) ≡ 0 = sym e ∙ z in rw q refl
 
-      told : (ws : Text) → Stands s h ws → (f k : ℕ) (ds : Declared) (rest : Text) → Told f Declarations k ws ds rest → (ds ≡ []) × Stands s h rest
-      told ws st f k ds rest x =
+      told : (ws : Text) → Stands s h ws → (f k : ℕ) → k ≤ mostLevels → (ds : Several) (rest : Text) → Told f Declarations k ws ds rest → (ds ≡ []) × Stands s h rest
+      told ws st f k few ds rest x =
           let (g, i, p, row) = declarations-told f k ws ds rest x in
           let q : i ≡ 0 = sym (called-row s Declarations listsRow all-lists h ws i st p) ∙ zero-row in
           let (a, u) = subst (DeclarationsRow g k ws ds rest) q row in
           (a, subst (Stands s h) u st)
 
-  pub opened-list : {v : Here} → ¬ (l ≡ 0) → l ≤ 4 → h .kind < kindCount → Begins s (h .next) v → Opened s h (record { list = l; word = v })
+  pub opened-list : {v : Here} → ¬ (l ≡ 0) → l ≤ 5 → h .kind < kindCount → Begins s (h .next) v → Opened s h (record { list = l; word = v })
   opened-list {v} z m known b = record { near = b .near; list = m; from = begins-later n b; later = λ g. omega (arith, n .more known, b .later); told = told }
     where
-      one-row : listsRow (h .kind) ≡ 1
-      one-row = rw (ne-eqb (listOf (h .kind)) 0 (λ q. z (e ∙ q))) refl
+      some : ¬ (listOf (h .kind) ≡ 0)
+      some q = z (e ∙ q)
 
-      named : (j : ℕ) → l ≡ suc j → (ds : Declared) (rest : Text) → Names s (suc j) v ds rest → LeftBy s l v ds rest
-      named j q ds rest x = rw q x
+      list-row : eqb (listOf (h .kind)) 5 ≡ false → listsRow (h .kind) ≡ 1
+      list-row q = rw (ne-eqb (listOf (h .kind)) 0 some, q) refl
 
-      told : (ws : Text) → Stands s h ws → (f k : ℕ) (ds : Declared) (rest : Text) → Told f Declarations k ws ds rest → LeftBy s l v ds rest
-      told ws st f k ds rest x =
+      procedure-row : eqb (listOf (h .kind)) 5 ≡ true → listsRow (h .kind) ≡ 2
+      procedure-row q = rw (ne-eqb (listOf (h .kind)) 0 some, q) refl
+
+      proceeds : (ds : Several) (rest : Text) → l ≡ 5 → Proceeds s v ds rest → LeftBy s l v ds rest
+      proceeds ds rest q x = rw q x
+
+      named : (j : ℕ) → l ≡ suc j → l ≤ 4 → (ds : Several) (rest : Text) → Names s (suc j) v ds rest → LeftBy s l v ds rest
+      named j q r ds rest x = left-names s l v ds rest (omega (arith, q)) r (rw q x)
+
+      told : (ws : Text) → Stands s h ws → (f k : ℕ) → k ≤ mostLevels → (ds : Several) (rest : Text) → Told f Declarations k ws ds rest → LeftBy s l v ds rest
+      told ws st f k few ds rest x =
           let (g, i, p, row) = declarations-told f k ws ds rest x in
-          let q : i ≡ 1 = sym (called-row s Declarations listsRow all-lists h ws i st p) ∙ one-row in
-          let (c, mid, here, others, y, u, all) = subst (DeclarationsRow g k ws ds rest) q row in
-          let (g₁, j, p₁, row₁) = declaration-told g k ws here (c ∷ mid) y in
-          let q₁ : listOf (h .kind) - 1 ≡ j = called-row s grammar.Declaration listRow all-list h ws j st p₁ in
-          let (w, tail, a, t) = listed-by j g₁ k ws here (c ∷ mid) row₁ in
-          named j (omega (arith, e)) ds rest (record { fuel = g₁; levels = k; words = tail; close = c; mid = mid; here = here; on = others; stands = on h b st a; listed = t; others = (g, u); all = all })
+          go g i (called-row s Declarations listsRow all-lists h ws i st p) row (eqb (listOf (h .kind)) 5) refl
+        where
+          go : (g i : ℕ) → listsRow (h .kind) ≡ i → DeclarationsRow g k ws ds rest i → (t : Bool) → eqb (listOf (h .kind)) 5 ≡ t → LeftBy s l v ds rest
+          go g i p row true t =
+              let (w, tail, mid, low, here, others, a, y, af, u, all) = subst (DeclarationsRow g k ws ds rest) (sym p ∙ procedure-row t) row in
+              let al : Along s (h .next) tail = on-words s h st a in
+              let st₁ : Stands s v tail = b .stands tail al in
+              proceeds ds rest (e ∙ eqb-true (listOf (h .kind)) 5 t) (record { fuel = g; levels = k; few = few; words = tail; mid = mid; low = low; here = here; on = others; stands = st₁; from = along-place s (h .next) v tail al st₁; procedure = y; after = af; others = (g, u); all = all })
+          go g i p row false t =
+              let (c, mid, here, others, y, u, all) = subst (DeclarationsRow g k ws ds rest) (sym p ∙ list-row t) row in
+              let (g₁, j, p₁, row₁) = declaration-told g k ws here (c ∷ mid) y in
+              let q₁ : listOf (h .kind) - 1 ≡ j = called-row s grammar.Declaration listRow all-list h ws j st p₁ in
+              let (w, tail, a, x₁) = listed-by j g₁ k ws here (c ∷ mid) row₁ in
+              named j (omega (arith, e, q₁, z)) (omega (arith, m, e, eqb-false (listOf (h .kind)) 5 t)) ds rest (record { fuel = g₁; levels = k; few = few; words = tail; close = c; mid = mid; here = here; on = others; stands = on h b st a; listed = x₁; others = (g, u); all = all })
 
 -- ---- what follows a name
 
@@ -417,51 +461,180 @@ module _ (s : List ℕ) (h : Here) where
 
 -- ---- one name after the other
 
-names-left : (s : List ℕ) (l : ℕ) (h : Here) (ds : Declared) (rest : Text) → 1 ≤ l → LeftBy s l h ds rest → Names s l h ds rest
-names-left s zero h ds rest g x = absurd (omega arith)
-names-left s (suc l) h ds rest g x = x
-
-left-names : (s : List ℕ) (l : ℕ) (h : Here) (ds : Declared) (rest : Text) → 1 ≤ l → Names s l h ds rest → LeftBy s l h ds rest
-left-names s zero h ds rest g x = absurd (omega arith)
-left-names s (suc l) h ds rest g x = x
-
-module _ {s : List ℕ} {a : At} (ready : Ready s a) (some : 1 ≤ a .list) (known : a .word .kind ≡ 0) {r : Named} (c : NamedCame s (a .list) (a .word) r) {v : Here} (b : Begins s (r .word .next) v) where
+module _ {s : List ℕ} {a : At} (ready : Ready s a) (some : 1 ≤ a .list) (low : a .list ≤ 4) (known : a .word .kind ≡ 0) {r : Named} (c : NamedCame s (a .list) (a .word) r) {v : Here} (b : Begins s (r .word .next) v) where
   name-on : a .word .place < a .word .next
   name-on = ready .near .more (omega (arith, known))
 
   pub step-comma : r .word .kind ≡ 13 → StepCame s a (record { item = r .item; at = record { list = a .list; word = v } })
   step-comma e =
-      record { near = b .near; list = ready .list; on = omega (arith, name-on, c .later, c .near .on, b .later); later = λ g. omega (arith, name-on, c .later, c .near .more (omega (arith, e)), b .later); kind = c .kind; place = c .place; next = c .next; told = told }
+      record { near = b .near; list = ready .list; on = omega (arith, name-on, c .later, c .near .on, b .later); later = λ g. two; kind = omega (arith, c .kind); place = c .place; next = c .next; told = told }
     where
-      told : (ds : Declared) (rest : Text) → Left s a ds rest → Stepped s ds rest (record { item = r .item; at = record { list = a .list; word = v } })
+      two : a .word .place + 2 ≤ v .place
+      two = omega (arith, name-on, c .later, c .near .more (omega (arith, e)), b .later)
+
+      told : (ds : Several) (rest : Text) → Left s a ds rest → Stepped s a ds rest (record { item = r .item; at = record { list = a .list; word = v } })
       told ds rest x =
-          let y = names-left s (a .list) (a .word) ds rest some x in
+          let y = names-left s (a .list) (a .word) ds rest some low x in
           let z = c .told (y .words) (y .stands) (y .fuel) (y .levels) (y .here) (y .close ∷ y .mid) (y .listed) in
           let (g, w, tail, q, l) = more-row s (r .word) (a .list) (z .fuel) (y .levels) (z .mid) (z .on) (y .close ∷ y .mid) (z .stands) e (z .more) in
           record {
-            one = z .one;
-            on = z .on ++ y .on;
-            all = y .all ∙ ap (λ (d : Declared). d ++ y .on) (z .all);
+            one = aVariable (z .one);
+            on = map aVariable (z .on) ++ y .on;
+            all = y .all ∙ ap (λ (d : Declared). map aVariable d ++ y .on) (z .all);
             is = z .is;
-            left = left-names s (a .list) v (z .on ++ y .on) rest some (record { fuel = g; levels = y .levels; words = tail; close = y .close; mid = y .mid; here = z .on; on = y .on; stands = on (r .word) b (z .stands) q; listed = l; others = y .others; all = refl });
+            left = left-names s (a .list) v (map aVariable (z .on) ++ y .on) rest some low (record { fuel = g; levels = y .levels; few = y .few; words = tail; close = y .close; mid = y .mid; here = z .on; on = y .on; stands = on (r .word) b (z .stands) q; listed = l; others = y .others; all = refl });
+            far = omega (arith, two);
           }
 
   pub step-close : {at : At} → ¬ (r .word .kind ≡ 13) → Opened s v at → StepCame s a (record { item = r .item; at = at })
   step-close {at} e o =
-      record { near = o .near; list = o .list; on = omega (arith, name-on, c .later, c .near .on, b .later, o .from); later = λ g. omega (arith, name-on, c .later, c .near .on, b .later, o .later g); kind = c .kind; place = c .place; next = c .next; told = told }
+      record { near = o .near; list = o .list; on = omega (arith, name-on, c .later, c .near .on, b .later, o .from); later = λ g. omega (arith, name-on, c .later, c .near .on, b .later, o .later g); kind = omega (arith, c .kind); place = c .place; next = c .next; told = told }
     where
-      told : (ds : Declared) (rest : Text) → Left s a ds rest → Stepped s ds rest (record { item = r .item; at = at })
+      told : (ds : Several) (rest : Text) → Left s a ds rest → Stepped s a ds rest (record { item = r .item; at = at })
       told ds rest x =
-          let y = names-left s (a .list) (a .word) ds rest some x in
+          let y = names-left s (a .list) (a .word) ds rest some low x in
           let z = c .told (y .words) (y .stands) (y .fuel) (y .levels) (y .here) (y .close ∷ y .mid) (y .listed) in
           let (p, q) = more-ends s (r .word) (a .list) (z .fuel) (y .levels) (z .mid) (z .on) (y .close ∷ y .mid) (z .stands) e (z .more) in
           let h : y .here ≡ z .one ∷ [] = z .all ∙ ap (λ (d : Declared). z .one ∷ d) p in
+          let st : Stands s (r .word) (y .close ∷ y .mid) = subst (Stands s (r .word)) q (z .stands) in
           record {
-            one = z .one;
+            one = aVariable (z .one);
             on = y .on;
-            all = y .all ∙ ap (λ (d : Declared). d ++ y .on) h;
+            all = y .all ∙ ap (λ (d : Declared). map aVariable d ++ y .on) h;
             is = z .is;
-            left = o .told (y .mid) (on (r .word) b (z .stands) q) (y .others .0) (y .levels) (y .on) rest (y .others .1);
+            left = o .told (y .mid) (on (r .word) b (z .stands) q) (y .others .0) (y .levels) (y .few) (y .on) rest (y .others .1);
+            far = omega (arith, name-on, c .later, c .near .more (st .0 .known), b .later, o .from);
+          }
+
+-- ---- a procedure is passed over
+
+abbrev afterRow : ℕ → ℕ
+afterRow k = cond (eqb k 12) 1 0
+
+all-afters : Decides AfterProcedure afterRow
+unfolding has beginRow pick csml binding claims first empty follow agrees upTo numbered spellings signs reserved
+all-afters = refl
+
+module _ {s : List ℕ} {h : Here} (n : Near s h) where
+  pub after-close : {r : Here} → h .kind ≡ 12 → Begins s (h .next) r → After s h r
+  after-close {r} e b = record { near = b .near; later = begins-later n b; told = told }
+    where
+      told : (ws : Text) → Stands s h ws → (f k : ℕ) (rest : Text) → Told f AfterProcedure k ws tt rest → Stands s r rest
+      told ws st f k rest x =
+          let (g, i, p, row) = after-procedure-told f k ws tt rest x in
+          let q : i ≡ 1 = sym (called-row s AfterProcedure afterRow all-afters h ws i st p) ∙ ap afterRow e in
+          let (w, a) = subst (AfterProcedureRow ws rest) q row in
+          on h b st a
+
+  pub after-none : ¬ (h .kind ≡ 12) → After s h h
+  after-none e = record { near = n; later = omega arith; told = told }
+    where
+      zero-row : afterRow (h .kind) ≡ 0
+      zero-row = rw (ne-eqb (h .kind) 12 e) refl
+
+      told : (ws : Text) → Stands s h ws → (f k : ℕ) (rest : Text) → Told f AfterProcedure k ws tt rest → Stands s h rest
+      told ws st f k rest x =
+          let (g, i, p, row) = after-procedure-told f k ws tt rest x in
+          let q : i ≡ 0 = sym (called-row s AfterProcedure afterRow all-afters h ws i st p) ∙ zero-row in
+          subst (Stands s h) (subst (AfterProcedureRow ws rest) q row) st
+
+-- .. word by word
+pub record Reaching (s : List ℕ) (h₀ h : Here) : Type 0 where
+  pub near : Near s h
+  pub later : h₀ .place ≤ h .place
+  pub told : (pre : Text) (x : Word) (rest : Text) → Stands s h₀ (pre ++ (x ∷ rest)) → Quiet pre → numberOf (x .kind) ≡ 57
+      → (on : Text) × Stands s h (on ++ (x ∷ rest)) × Quiet on × (h₀ .place + length pre ≤ h .place + length on)
+
+pub reach-start : {s : List ℕ} {h : Here} → Near s h → Reaching s h h
+reach-start n = record { near = n; later = omega arith; told = λ pre x rest st q e. (pre, st, q, omega arith) }
+
+pub kind-back : {s : List ℕ} {h : Here} {w : Word} → Same s h w → numberOf (w .kind) ≡ h .kind
+kind-back {s} {h} st = ap numberOf (sym (st .kind)) ∙ number-back (h .kind) (st .known)
+
+module _ {s : List ℕ} {h₀ h : Here} (g : Reaching s h₀ h) where
+  pub reach-ends : h .kind ≡ 57 → Reached s h₀ h
+  reach-ends e = record { near = g .near; later = g .later; told = told }
+    where
+      go : (h₁ : ℕ) (x : Word) (rest on : Text) → Stands s h (on ++ (x ∷ rest)) → Quiet on → h₁ ≤ h .place + length on → Stands s h (x ∷ rest) × (h₁ ≤ h .place)
+      go h₁ x rest [] st q m = (st, omega (arith, m))
+      go h₁ x rest (w ∷ on) st q m = absurd (q .0 (kind-back (st .0) ∙ e))
+
+      told : (pre : Text) (x : Word) (rest : Text) → Stands s h₀ (pre ++ (x ∷ rest)) → Quiet pre → numberOf (x .kind) ≡ 57 → Stands s h (x ∷ rest) × (h₀ .place + length pre ≤ h .place)
+      told pre x rest st q k = let (on, st₁, q₁, m) = g .told pre x rest st q k in go (h₀ .place + length pre) x rest on st₁ q₁ m
+
+  -- behind the last word there is none
+  pub reach-over : 62 < h .kind → Reached s h₀ h
+  reach-over e = record { near = g .near; later = g .later; told = told }
+    where
+      go : (x : Word) (rest on : Text) → Stands s h (on ++ (x ∷ rest)) → ⊥
+      go x rest [] st = omega (arith, st .0 .known, e)
+      go x rest (w ∷ on) st = omega (arith, st .0 .known, e)
+
+      told : (pre : Text) (x : Word) (rest : Text) → Stands s h₀ (pre ++ (x ∷ rest)) → Quiet pre → numberOf (x .kind) ≡ 57 → Stands s h (x ∷ rest) × (h₀ .place + length pre ≤ h .place)
+      told pre x rest st q k = let (on, st₁, q₁, m) = g .told pre x rest st q k in absurd (go x rest on st₁)
+
+  pub reach-on : {r : Here} → ¬ (h .kind ≡ 57) → h .kind ≤ 62 → Begins s (h .next) r → Reaching s h₀ r
+  reach-on {r} e l b = record { near = b .near; later = omega (arith, g .later, begins-later (g .near) b); told = told }
+    where
+      go : (h₁ : ℕ) (x : Word) (rest on : Text) → numberOf (x .kind) ≡ 57 → Stands s h (on ++ (x ∷ rest)) → Quiet on → h₁ ≤ h .place + length on
+          → (on : Text) × Stands s r (on ++ (x ∷ rest)) × Quiet on × (h₁ ≤ r .place + length on)
+      go h₁ x rest [] k st q m = absurd (e (sym (kind-back (st .0)) ∙ k))
+      go h₁ x rest (w ∷ on) k st q m = (on, b .stands (on ++ (x ∷ rest)) (st .1), q .1, omega (arith, m, b .later, g .near .more (omega (arith, l))))
+
+      told : (pre : Text) (x : Word) (rest : Text) → Stands s h₀ (pre ++ (x ∷ rest)) → Quiet pre → numberOf (x .kind) ≡ 57
+          → (on : Text) × Stands s r (on ++ (x ∷ rest)) × Quiet on × (h₀ .place + length pre ≤ r .place + length on)
+      told pre x rest st q k = let (on, st₁, q₁, m) = g .told pre x rest st q k in go (h₀ .place + length pre) x rest on k st₁ q₁ m
+
+proceeds-left : (s : List ℕ) (l : ℕ) (h : Here) (ds : Several) (rest : Text) → l ≡ 5 → LeftBy s l h ds rest → Proceeds s h ds rest
+proceeds-left s l h ds rest e x = rw e at x
+
+module _ {s : List ℕ} {a : At} (ready : Ready s a) (five : a .list ≡ 5) (known : a .word .kind ≡ 0) {v e w u : Here} {r : At} (bv : Begins s (a .word .next) v) (re : Reached s v e) (bw : Begins s (e .next) w) (af : After s w u) (o : Opened s u r) where
+  abbrev here : Here
+  here = a .word
+
+  abbrev procedureItem : Item
+  procedureItem = record { kind = 4; place = here .place; next = here .next; number = 0; width = 0; value = 0 }
+
+  some-on : here .place < here .next
+  some-on = ready .near .more (omega (arith, known))
+
+  on-behind : here .next ≤ u .place
+  on-behind = omega (arith, bv .later, re .later, re .near .on, bw .later, af .later)
+
+  pub step-procedure : StepCame s a (record { item = procedureItem; at = r })
+  step-procedure =
+      record { near = o .near; list = o .list; on = omega (arith, some-on, on-behind, o .from); later = λ g. omega (arith, some-on, on-behind, o .later g); kind = omega arith; place = refl; next = refl; told = told }
+    where
+      told : (ds : Several) (rest : Text) → Left s a ds rest → Stepped s a ds rest (record { item = procedureItem; at = r })
+      told ds rest x =
+          let y = proceeds-left s (a .list) here ds rest five x in
+          let z = procedure-whole (y .fuel) (y .levels) (y .words) (y .here) (y .mid) (y .procedure) in
+          let tail = z .pre ++ (z .close ∷ y .mid) in
+          let st : Stands s here (z .first ∷ tail) = subst (Stands s here) (z .all) (y .stands) in
+          let st₁ : Stands s v tail = bv .stands tail (st .1) in
+          let (st₂, far) = re .told (z .pre) (z .close) (y .mid) st₁ (z .quiet) (z .ends) in
+          let st₃ : Stands s w (y .mid) = bw .stands (y .mid) (st₂ .1) in
+          let st₄ : Stands s u (y .low) = af .told (y .mid) st₃ (y .fuel) (y .levels) (y .low) (y .after) in
+          let p : y .here .name .place ≡ z .first .place = ap (λ (m : Name). m .place) (z .name) in
+          let m : y .here .name .bytes ≡ z .first .bytes = ap (λ (m : Name). m .bytes) (z .name) in
+          record {
+            one = aProcedure (y .here);
+            on = y .on;
+            all = y .all;
+            is = record {
+              lasts = record {
+                bytes = rw (p, m) (lies-bytes (ready .near) (st .0) (z .named));
+                short = rw m (short (ready .near) (st .0) (z .named));
+                inside = rw p (inside (ready .near) (st .0) (z .named));
+                stands = (y .fuel, y .levels, y .words, y .mid, y .few, subst (λ (q : ℕ). Along s q (y .words)) (st .0 .place ∙ sym p) (y .from), y .procedure);
+              };
+              kind = refl;
+              place = st .0 .place ∙ sym p;
+              next = rw (p, m) (end-is (ready .near) (st .0) (z .named));
+              formals = (z .formals .0, y .levels, tail, z .formals .1, st .1, z .formals .2);
+            };
+            left = o .told (y .low) st₄ (y .others .0) (y .levels) (y .few) (y .on) rest (y .others .1);
+            far = omega (arith, some-on, bv .later, far, z .long, re .near .more (st₂ .0 .known), bw .later, af .later, o .from);
           }
 
 -- ---- the first name of a program
@@ -470,15 +643,15 @@ module _ {s : List ℕ} {p n c v : Here} {r : At} (bp : Begins s 0 p) (bn : Begi
   pub begins-program : BeginCame s r
   begins-program = record { ready = record { near = o .near; list = o .list }; told = told }
     where
-      told : (ws : Text) → Along s 0 ws → (f k : ℕ) (x : Source) (rest : Text) → Told f Program k ws x rest → Begun s k x rest r
-      told ws a f k x rest y =
+      told : (ws : Text) → Along s 0 ws → (f k : ℕ) → k ≤ mostLevels → (x : Unexpanded) (rest : Text) → Told f Program k ws x rest → Begun s k x rest r
+      told ws a f k few x rest y =
           let (g, i, q, row) = program-told f k ws x rest y in let (w₁, w₂, w₃, e, tail, mid, ds, b, eq, z, u, all) = row in
           let t₁ : Stands s p (w₁ ∷ w₂ ∷ w₃ ∷ tail) = bp .stands (w₁ ∷ w₂ ∷ w₃ ∷ tail) (subst (Along s 0) eq a) in
           let t₂ : Stands s n (w₂ ∷ w₃ ∷ tail) = bn .stands (w₂ ∷ w₃ ∷ tail) (t₁ .1) in
           let t₃ : Stands s c (w₃ ∷ tail) = bc .stands (w₃ ∷ tail) (t₂ .1) in
           let t₄ : Stands s v tail = bv .stands tail (t₃ .1) in
-          let l : Left s r ds mid = o .told tail t₄ g k ds mid z in
-          record { mid = mid; close = e; fuel = g; left = subst (λ (d : Declared). Left s r d mid) (sym (ap (λ (x : Source). x .declared) all)) l; body = subst (λ (y : Stmts Name). Told g Statements k mid y (e ∷ rest)) (sym (ap (λ (x : Source). x .body) all)) u }
+          let l : Left s r ds mid = o .told tail t₄ g k few ds mid z in
+          record { mid = mid; close = e; fuel = g; left = subst (λ (d : Several). Left s r d mid) (sym (ap (λ (x : Unexpanded). x .declared) all)) l; body = subst (λ (y : Commands). Told g Statements k mid y (e ∷ rest)) (sym (ap (λ (x : Unexpanded). x .body) all)) u; far = omega (arith, bp .near .more (t₁ .0 .known), bn .later, bn .near .more (t₂ .0 .known), bc .later, bc .near .on, bv .later, o .from) }
 
 -- ---- the word in hand is a name
 
@@ -490,10 +663,19 @@ listed-name (suc (suc (suc zero))) f k ws ds rest (m, x, e) = let (g, i, p, row)
 listed-name (suc (suc (suc (suc zero)))) f k ws ds rest x = let (g, i, p, row) = integers-told f k ws ds rest x in let (w, o, u, cl, tail, mid, v, es, a, q, nk, y, l, all) = row in (w, o ∷ u ∷ cl ∷ tail, a, q)
 listed-name (suc (suc (suc (suc (suc l))))) f k ws ds rest x = absurd x
 
-pub left-name : (s : List ℕ) (a : At) (ds : Declared) (rest : Text) → 1 ≤ a .list → Left s a ds rest → a .word .kind ≡ 0
+pub left-name : (s : List ℕ) (a : At) (ds : Several) (rest : Text) → 1 ≤ a .list → a .list ≤ 5 → Left s a ds rest → a .word .kind ≡ 0
 unfolding numbered
-left-name s a ds rest some x =
-    let y = names-left s (a .list) (a .word) ds rest some x in
-    let (w, tail, e, q) = listed-name (a .list) (y .fuel) (y .levels) (y .words) (y .here) (y .close ∷ y .mid) (y .listed) in
-    let t : Stands s (a .word) (w ∷ tail) = subst (Stands s (a .word)) e (y .stands) in
-    sym (number-back (a .word .kind) (t .0 .known)) ∙ ap numberOf (t .0 .kind ∙ q) ∙ number-back 0 (omega arith)
+left-name s a ds rest some most x = go (decLt (a .list) 5)
+  where
+    named : (w : Word) (tail : Text) → Stands s (a .word) (w ∷ tail) → w .kind ≡ name → a .word .kind ≡ 0
+    named w tail t q = sym (number-back (a .word .kind) (t .0 .known)) ∙ ap numberOf (t .0 .kind ∙ q) ∙ number-back 0 (omega arith)
+
+    go : Dec (a .list < 5) → a .word .kind ≡ 0
+    go (yes l) =
+        let y = names-left s (a .list) (a .word) ds rest some (omega (arith, l)) x in
+        let (w, tail, e, q) = listed-name (a .list) (y .fuel) (y .levels) (y .words) (y .here) (y .close ∷ y .mid) (y .listed) in
+        named w tail (subst (Stands s (a .word)) e (y .stands)) q
+    go (no l) =
+        let y = proceeds-left s (a .list) (a .word) ds rest (omega (arith, l, most)) x in
+        let z = procedure-whole (y .fuel) (y .levels) (y .words) (y .here) (y .mid) (y .procedure) in
+        named (z .first) (z .pre ++ (z .close ∷ y .mid)) (subst (Stands s (a .word)) (z .all) (y .stands)) (z .named)

@@ -1,4 +1,4 @@
-// Declarations read from a text: an entry a declared name in lent bytes, and what is noted of them.
+// Declarations read from a text: an entry a declared name and a row a procedure in lent bytes, and what is noted of them.
 ghost use mathlib.Core.Path.{_≡_};
 ghost use Prim.Native.Nat.{_≤_};
 ghost use lib.ListN.{length};
@@ -8,9 +8,10 @@ use names::Item;
 use names::Marks;
 use names::enter;
 
+mod rows;
 mod step;
 
-// Where a reader of declarations is: 0 behind them, else at a declared name of 1 inputs, 2 outputs, 3 internals, 4 integers.
+// Where a reader of declarations is: 0 behind them, else at a declared name of 1 inputs, 2 outputs, 3 internals, 4 integers, 5 at a procedure's.
 pub struct At {
     pub list: u8,
     pub word: Here,
@@ -34,9 +35,10 @@ pub struct Turn {
     pub at: At,
 }
 
-// The marks of all declarations, and the word behind them.
+// The marks of all declarations, how many are procedures, and the word behind them.
 pub struct Read {
     pub marks: Marks,
+    pub procedures: u16,
     pub word: Here,
 }
 
@@ -70,18 +72,33 @@ fn enter_all(s: &[u8], t: &mut [u8], first: At, marks: Marks) -> Read
 {
     let mut at = first;
     let mut m = marks;
+    let mut n: u16 = 0;
     loop {
         let l = at.list;
         let w = at.word;
         if l == 0 {
-            return Read { marks: m, word: w };
+            return Read {
+                marks: m,
+                procedures: n,
+                word: w,
+            };
         }
         if w.kind != 0 {
-            return Read { marks: m, word: w };
+            return Read {
+                marks: m,
+                procedures: n,
+                word: w,
+            };
         }
         let x = step::step(s, at);
         let i = x.item;
-        m = enter::entered(s, t, m, i);
+        if i.kind == 4 {
+            m = rows::procedure_in(s, t, m, n, i);
+            n += 1;
+            at = x.at;
+            continue;
+        }
+        m = rows::variable_in(s, t, m, n, i);
         at = x.at;
     }
 }

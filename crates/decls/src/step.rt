@@ -3,7 +3,7 @@ ghost use mathlib.Core.Path.{_≡_};
 ghost use Prim.Native.Nat.{_≤_};
 ghost use lib.ListN.{length};
 ghost use Rattle.hand.specs.Along.{Near};
-ghost use Rattle.decls.specs.Came.{Ended, BooleanStarted, IntegerStarted, NamedCame, Opened, StepCame, BeginCame, Ready};
+ghost use Rattle.decls.specs.Came.{Ended, BooleanStarted, IntegerStarted, NamedCame, Reached, After, Opened, StepCame, BeginCame, Ready};
 ghost use Rattle.decls.specs.Left.{listOf};
 use crate::At;
 use crate::Named;
@@ -119,7 +119,7 @@ fn named(s: &[u8], list: u8, h: Here) -> Named
     }
 }
 
-// The list that a declaration's first word opens: 0 where it opens none.
+// The list that a declaration's first word opens: 5 for a procedure, 0 where it opens none.
 fn list_of(kind: u8) -> u8
     ensures { λ r. ⌜ r ≡ listOf kind ⌝ }
 {
@@ -134,6 +134,9 @@ fn list_of(kind: u8) -> u8
     }
     if kind == 31 {
         return 4;
+    }
+    if kind == 56 {
+        return 5;
     }
     0
 }
@@ -153,9 +156,9 @@ fn opened(s: &[u8], h: Here) -> At
     }
 }
 
-// One declared name, and where the next one is.
-pub fn step(s: &[u8], at: At) -> Turn
-    requires { ⌜ Ready (now s) at × (1 ≤ at .list) × (at .word .kind ≡ 0) ⌝ }
+// One declared variable, and where the next name is.
+fn variable(s: &[u8], at: At) -> Turn
+    requires { ⌜ Ready (now s) at × (1 ≤ at .list) × (at .list ≤ 4) × (at .word .kind ≡ 0) ⌝ }
     ensures { λ r. ⌜ StepCame (now (s .entry)) at r ⌝ }
 {
     let h = at.word;
@@ -174,6 +177,67 @@ pub fn step(s: &[u8], at: At) -> Turn
     }
     let a = opened(s, v);
     Turn { item: i, at: a }
+}
+
+// The first `endproc` from a word on: no procedure stands in another.
+fn reached(s: &[u8], first: Here) -> Here
+    requires { ⌜ Near (now s) first ⌝ }
+    ensures { λ r. ⌜ Reached (now (s .entry)) first r ⌝ }
+{
+    let mut h = first;
+    loop {
+        if h.kind == 57 {
+            return h;
+        }
+        if h.kind > 62 {
+            return h;
+        }
+        h = word_from(s, h.next);
+    }
+}
+
+// Behind a procedure: a `;`, or none.
+fn after(s: &[u8], h: Here) -> Here
+    requires { ⌜ Near (now s) h ⌝ }
+    ensures { λ r. ⌜ After (now (s .entry)) h r ⌝ }
+{
+    if h.kind == 12 {
+        return word_from(s, h.next);
+    }
+    h
+}
+
+// A procedure's name, its body passed over, and where the next name is.
+fn procedure(s: &[u8], at: At) -> Turn
+    requires { ⌜ Ready (now s) at × (at .list ≡ 5) × (at .word .kind ≡ 0) ⌝ }
+    ensures { λ r. ⌜ StepCame (now (s .entry)) at r ⌝ }
+{
+    let h = at.word;
+    let e = reached(s, word_from(s, h.next));
+    let v = after(s, word_from(s, e.next));
+    let a = opened(s, v);
+    Turn {
+        item: Item {
+            kind: 4,
+            place: h.place,
+            next: h.next,
+            number: 0,
+            width: 0,
+            value: 0,
+        },
+        at: a,
+    }
+}
+
+// One declared name, and where the next one is.
+pub fn step(s: &[u8], at: At) -> Turn
+    requires { ⌜ Ready (now s) at × (1 ≤ at .list) × (at .word .kind ≡ 0) ⌝ }
+    ensures { λ r. ⌜ StepCame (now (s .entry)) at r ⌝ }
+{
+    if at.list == 5 {
+        return procedure(s, at);
+    }
+    variable(s, at)
 }
 
 // The first declared name of a program.

@@ -1,6 +1,6 @@
 -- What a name stands for by the entries is what the definition says, and refusal 6 among declarations.
 -- Assumes nothing.
-use mathlib.Core.Bool.{Bool, true, false, cond, _&&_, not as opposite}
+use mathlib.Core.Bool.{Bool, true, false, cond, not as opposite}
 use mathlib.Core.Path.{_≡_, refl, sym, _∙_, ap, ap₂, subst}
 use mathlib.Core.List.{List, [], _∷_, _++_, append-nil, append-assoc}
 use mathlib.Core.Option.{Option, none, some}
@@ -8,7 +8,6 @@ use Prim.Native.Nat.{ℕ, zero, suc, _+_, _-_, _*_, _/_, _%_, _≤_, _<_}
 use native.Mathlib.Omega.{arith}
 use native.Mathlib.Numerals.{add-one}
 use native.Mathlib.Nat.{zero-add}
-use lib.Dec.{eqb}
 use lib.ListN.{length, getD, set, length-set}
 use lib.Seq.{getD-set-same, getD-set-other}
 use Rattle.meaning.specs.Numbers.{Variable, input, boolean, integer}
@@ -23,20 +22,8 @@ use Rattle.names.specs.declared.Marks.{Marks}
 use Rattle.names.specs.Look.{widthAt, placeAt, endAt, kindAt, variableBy, entryAt, lookFrom, lookIn, putEntry}
 use Rattle.names.specs.Enter.{cap, tagOf, noted, numberFor, put, enter, enterAll, startMarks}
 use Rattle.decls.specs.Came.{Lies, AllLie}
+use Rattle.decls.proofs.Entering.{same-bytes}
 use Rattle.decls_law.proofs.Least.{least-when}
-
--- ---- two definitions of the same bytes
-
-pub same-bytes : (x y : List ℕ) → same x y ≡ sameBytes x y
-unfolding same sameBytes
-same-bytes [] [] = refl
-same-bytes [] (b ∷ y) = refl
-same-bytes (a ∷ x) [] = refl
-same-bytes (a ∷ x) (b ∷ y) = go (eqb a b) (same-bytes x y)
-  where
-    go : (t : Bool) → same x y ≡ sameBytes x y → t && same x y ≡ cond t (sameBytes x y) false
-    go true e = e
-    go false e = refl
 
 -- ---- an entry written
 
@@ -52,7 +39,15 @@ module _ (t : List ℕ) (n p k l v : ℕ) (room : n * 4 + 4 ≤ length t) where
       ∙ getD-set-other (set t (n * 4) (p % 256)) (n * 4 + 1) j (p / 256 + k * 32) 0 (λ e. omega arith)
       ∙ getD-set-other t (n * 4) j (p % 256) 0 (λ e. omega arith)
 
-  put-0 : getD u (n * 4) 0 ≡ p % 256
+  pub put-above : (j : ℕ) → n * 4 + 4 ≤ j → getD u j 0 ≡ getD t j 0
+  unfolding putEntry
+  put-above j h =
+      getD-set-other (set (set (set t (n * 4) (p % 256)) (n * 4 + 1) (p / 256 + k * 32)) (n * 4 + 2) l) (n * 4 + 3) j v 0 (λ e. omega arith)
+      ∙ getD-set-other (set (set t (n * 4) (p % 256)) (n * 4 + 1) (p / 256 + k * 32)) (n * 4 + 2) j l 0 (λ e. omega arith)
+      ∙ getD-set-other (set t (n * 4) (p % 256)) (n * 4 + 1) j (p / 256 + k * 32) 0 (λ e. omega arith)
+      ∙ getD-set-other t (n * 4) j (p % 256) 0 (λ e. omega arith)
+
+  pub put-0 : getD u (n * 4) 0 ≡ p % 256
   unfolding putEntry
   put-0 =
       getD-set-other (set (set (set t (n * 4) (p % 256)) (n * 4 + 1) (p / 256 + k * 32)) (n * 4 + 2) l) (n * 4 + 3) (n * 4) v 0 (λ e. omega arith)
@@ -60,20 +55,20 @@ module _ (t : List ℕ) (n p k l v : ℕ) (room : n * 4 + 4 ≤ length t) where
       ∙ getD-set-other (set t (n * 4) (p % 256)) (n * 4 + 1) (n * 4) (p / 256 + k * 32) 0 (λ e. omega arith)
       ∙ getD-set-same t (n * 4) (p % 256) 0 (omega arith)
 
-  put-1 : getD u (n * 4 + 1) 0 ≡ p / 256 + k * 32
+  pub put-1 : getD u (n * 4 + 1) 0 ≡ p / 256 + k * 32
   unfolding putEntry
   put-1 =
       getD-set-other (set (set (set t (n * 4) (p % 256)) (n * 4 + 1) (p / 256 + k * 32)) (n * 4 + 2) l) (n * 4 + 3) (n * 4 + 1) v 0 (λ e. omega arith)
       ∙ getD-set-other (set (set t (n * 4) (p % 256)) (n * 4 + 1) (p / 256 + k * 32)) (n * 4 + 2) (n * 4 + 1) l 0 (λ e. omega arith)
       ∙ getD-set-same (set t (n * 4) (p % 256)) (n * 4 + 1) (p / 256 + k * 32) 0 (simp length-set (omega arith))
 
-  put-2 : getD u (n * 4 + 2) 0 ≡ l
+  pub put-2 : getD u (n * 4 + 2) 0 ≡ l
   unfolding putEntry
   put-2 =
       getD-set-other (set (set (set t (n * 4) (p % 256)) (n * 4 + 1) (p / 256 + k * 32)) (n * 4 + 2) l) (n * 4 + 3) (n * 4 + 2) v 0 (λ e. omega arith)
       ∙ getD-set-same (set (set t (n * 4) (p % 256)) (n * 4 + 1) (p / 256 + k * 32)) (n * 4 + 2) l 0 (simp length-set (omega arith))
 
-  put-3 : getD u (n * 4 + 3) 0 ≡ v
+  pub put-3 : getD u (n * 4 + 3) 0 ≡ v
   unfolding putEntry
   put-3 = getD-set-same (set (set (set t (n * 4) (p % 256)) (n * 4 + 1) (p / 256 + k * 32)) (n * 4 + 2) l) (n * 4 + 3) v 0 (simp length-set (omega arith))
 
@@ -82,7 +77,7 @@ module _ (t : List ℕ) (n p k l v : ℕ) (room : n * 4 + 4 ≤ length t) where
   put-length = simp length-set
 
   module _ (low : p < 8192) where
-    place-back : placeAt u n ≡ p
+    pub place-back : placeAt u n ≡ p
     unfolding placeAt
     place-back = rw (put-0, put-1) (omega arith)
 
@@ -103,7 +98,7 @@ module _ (t : List ℕ) (n p k l v : ℕ) (room : n * 4 + 4 ≤ length t) where
     look-back s x = rw (place-back, end-back, entry-back s) refl
 
 -- entries that are left alone
-look-frame : (s t u x : List ℕ) (n : ℕ) → ((j : ℕ) → j < n * 4 → getD u j 0 ≡ getD t j 0) → (k i : ℕ) → i + k ≤ n → lookFrom s u x k i ≡ lookFrom s t x k i
+pub look-frame : (s t u x : List ℕ) (n : ℕ) → ((j : ℕ) → j < n * 4 → getD u j 0 ≡ getD t j 0) → (k i : ℕ) → i + k ≤ n → lookFrom s u x k i ≡ lookFrom s t x k i
 unfolding lookFrom entryAt endAt placeAt kindAt
 look-frame s t u x n f zero i h = refl
 look-frame s t u x n f (suc k) i h =
@@ -111,7 +106,7 @@ look-frame s t u x n f (suc k) i h =
 
 -- ---- the first of two
 
-abbrev orElse : Option Variable → Option Variable → Option Variable
+abbrev pub orElse : Option Variable → Option Variable → Option Variable
 orElse none b = b
 orElse (some v) b = some v
 
@@ -185,10 +180,10 @@ others-last [] d = omega arith
 others-last (c ∷ pre) d = omega (arith, others-last pre d)
 
 module _ (s : List ℕ) where
-  abbrev written : Declaration → Marks → Variable
+  abbrev pub written : Declaration → Marks → Variable
   written d m = variableBy (tagOf d) (numberFor (tagOf d) m) (widthAt s (nameOf d .place + length (nameOf d .bytes)))
 
-  look-entered : (d : Declaration) (m : Marks) (t x : List ℕ) → Lies s d → m .names * 4 + 4 ≤ length t
+  pub look-entered : (d : Declaration) (m : Marks) (t x : List ℕ) → Lies s d → m .names * 4 + 4 ≤ length t
       → lookIn s (enter s d m t .bytes) (enter s d m t .marks .names) x ≡ orElse (lookIn s t (m .names) x) (cond (sameBytes (nameOf d .bytes) x) (some (written d m)) none)
   unfolding put lookIn
   look-entered d m t x l h =
@@ -203,11 +198,11 @@ module _ (s : List ℕ) where
       ∙ ap (orElse (lookFrom s t x (m .names) 0)) (look-back t (m .names) p (tagOf d) z v h (l .inside) s x
       ∙ ap (λ (b : Bool). cond b (some (written d m)) none) (ap (λ (y : List ℕ). same y x) (l .bytes) ∙ same-bytes (nameOf d .bytes) x))
 
-  long-entered : (d : Declaration) (m : Marks) (t : List ℕ) → m .names * 4 + 4 ≤ length t → length (enter s d m t .bytes) ≡ length t
+  pub long-entered : (d : Declaration) (m : Marks) (t : List ℕ) → m .names * 4 + 4 ≤ length t → length (enter s d m t .bytes) ≡ length t
   unfolding put
   long-entered d m t h = put-length t (m .names) (nameOf d .place) (tagOf d) (length (nameOf d .bytes)) (numberFor (tagOf d) m) h
 
-  names-entered : (d : Declaration) (m : Marks) (t : List ℕ) → enter s d m t .marks .names ≡ m .names + 1
+  pub names-entered : (d : Declaration) (m : Marks) (t : List ℕ) → enter s d m t .marks .names ≡ m .names + 1
   unfolding put
   names-entered d m t = refl
 
@@ -277,13 +272,13 @@ module _ (s : List ℕ) where
 
   -- ---- refusal 6
 
-  known-else : (a : Option Variable) (b : Bool) (v : Variable) → opposite (missing (orElse a (cond b (some v) none))) ≡ cond b true (opposite (missing a))
+  pub known-else : (a : Option Variable) (b : Bool) (v : Variable) → opposite (missing (orElse a (cond b (some v) none))) ≡ cond b true (opposite (missing a))
   known-else none true v = refl
   known-else none false v = refl
   known-else (some w) true v = refl
   known-else (some w) false v = refl
 
-  six-entered : (d : Declaration) (m : Marks) (t : List ℕ) → enter s d m t .marks .six ≡ noted (opposite (missing (lookIn s t (m .names) (nameOf d .bytes)))) (nameOf d .place) (m .six)
+  pub six-entered : (d : Declaration) (m : Marks) (t : List ℕ) → enter s d m t .marks .six ≡ noted (opposite (missing (lookIn s t (m .names) (nameOf d .bytes)))) (nameOf d .place) (m .six)
   unfolding put
   six-entered d m t = refl
 

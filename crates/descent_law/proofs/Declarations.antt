@@ -5,13 +5,14 @@ use mathlib.Core.List.{List}
 use Prim.Native.Nat.{ℕ, zero, suc}
 use native.Mathlib.Omega.{arith}
 use Rattle.meaning.specs.Declared as declared
-use Rattle.meaning.specs.Declared.{Source}
+use Rattle.meaning.specs.Unexpanded as unexpanded
+use Rattle.meaning.specs.Unexpanded.{DeclaredName, Unexpanded}
 use Rattle.ll1.specs.Values.{make}
 use Rattle.language.specs.Words.{Word}
-use Rattle.language.specs.Grammar.{Program, Declarations, Declaration, Inputs, MoreInputs, Ending, Booleans, MoreBooleans, BooleanStart, BooleanValue, Integers, MoreIntegers, IntegerStart, csml}
-use Rattle.language.specs.Trees.{makes}
+use Rattle.language.specs.Grammar.{Program, Declarations, Declaration, Inputs, MoreInputs, Ending, Booleans, MoreBooleans, BooleanStart, BooleanValue, Integers, MoreIntegers, IntegerStart, Procedure, Formals, FormalNames, MoreFormals, AfterProcedure, csml}
+use Rattle.language.specs.Trees.{Name, makes}
 use Rattle.descent_law.specs.Told.{Told, Called}
-use Rattle.descent_law.specs.Declarations.{Declared, Maker, ProgramRow, DeclarationsRow, DeclarationRow, InputsRow, MoreInputsRow, EndingRow, BooleansRow, MoreBooleansRow, BooleanStartRow, BooleanValueRow, IntegersRow, MoreIntegersRow, IntegerStartRow}
+use Rattle.descent_law.specs.Declarations.{Declared, Maker, ProgramRow, DeclarationsRow, ProcedureRow, FormalsRow, FormalNamesRow, MoreFormalsRow, AfterProcedureRow, DeclarationRow, InputsRow, MoreInputsRow, EndingRow, BooleansRow, MoreBooleansRow, BooleanStartRow, BooleanValueRow, IntegersRow, MoreIntegersRow, IntegerStartRow}
 use Rattle.descent_law.proofs.Statements.{Row, by-rows}
 
 abbrev Text : Type 0
@@ -22,17 +23,61 @@ unfolding make csml makes
 program-row f k ws v rest zero h vs e (t₁, a₁, b₁, (t₂, a₂, b₂, (t₃, a₃, b₃, (m₄, y₄, (m₅, y₅, (t₆, a₆, b₆, z)))))) = (vs .0, vs .1 .0, vs .1 .1 .0, vs .1 .1 .1 .1 .1 .0, t₃, m₄, vs .1 .1 .1 .0, vs .1 .1 .1 .1 .0, rw (a₂, a₃) at a₁, y₄, rw (a₆, z) at y₅, e)
 program-row f k ws v rest (suc i) h vs e x = absurd (omega arith)
 
-pub program-told : (f k : ℕ) (ws : Text) (v : Source) (rest : Text) → Told f Program k ws v rest → (e : ℕ) × (i : ℕ) × Called Program ws i × ProgramRow e k ws v rest
+pub program-told : (f k : ℕ) (ws : Text) (v : Unexpanded) (rest : Text) → Told f Program k ws v rest → (e : ℕ) × (i : ℕ) × Called Program ws i × ProgramRow e k ws v rest
 program-told = by-rows Program (λ f k ws v rest i. ProgramRow f k ws v rest) program-row
 
 declarations-row : Row Declarations DeclarationsRow
 unfolding make csml makes
 declarations-row f k ws v rest zero h vs e x = (e, x)
 declarations-row f k ws v rest (suc zero) h vs e (m₁, y₁, (t₂, a₂, b₂, (m₃, y₃, z))) = (vs .1 .0, t₂, vs .0, vs .1 .1 .0, rw a₂ at y₁, rw z at y₃, e)
-declarations-row f k ws v rest (suc (suc i)) h vs e x = absurd (omega arith)
+declarations-row f k ws v rest (suc (suc zero)) h vs e (t₁, a₁, b₁, (m₂, y₂, (m₃, y₃, (m₄, y₄, z)))) = (vs .0, t₁, m₂, m₃, vs .1 .0, vs .1 .1 .1 .0, a₁, y₂, y₃, rw z at y₄, e)
+declarations-row f k ws v rest (suc (suc (suc i))) h vs e x = absurd (omega arith)
 
-pub declarations-told : (f k : ℕ) (ws : Text) (v : Declared) (rest : Text) → Told f Declarations k ws v rest → (e : ℕ) × (i : ℕ) × Called Declarations ws i × DeclarationsRow e k ws v rest i
+pub declarations-told : (f k : ℕ) (ws : Text) (v : List DeclaredName) (rest : Text) → Told f Declarations k ws v rest → (e : ℕ) × (i : ℕ) × Called Declarations ws i × DeclarationsRow e k ws v rest i
 declarations-told = by-rows Declarations DeclarationsRow declarations-row
+
+procedure-row : Row Procedure (λ f k ws v rest i. ProcedureRow f k ws v rest)
+unfolding make csml makes
+procedure-row f k ws v rest zero h vs e (tail, a, b, (m₁, y₁, (m₂, y₂, (t₃, a₃, b₃, z)))) = (vs .0, vs .1 .1 .1 .0, tail, m₁, vs .1 .0, vs .1 .1 .0, a, b, y₁, rw (a₃, z) at y₂, e)
+procedure-row f k ws v rest (suc i) h vs e x = absurd (omega arith)
+
+pub procedure-told : (f k : ℕ) (ws : Text) (v : unexpanded.Procedure) (rest : Text) → Told f Procedure k ws v rest → (e : ℕ) × (i : ℕ) × Called Procedure ws i × ProcedureRow e k ws v rest
+procedure-told = by-rows Procedure (λ f k ws v rest i. ProcedureRow f k ws v rest) procedure-row
+
+formals-row : Row Formals (λ f k ws v rest i. FormalsRow f k ws v rest)
+unfolding make csml makes
+formals-row f k ws v rest zero h vs e (m, q, (tail, a, b, (mid, y, (t₁, a₁, b₁, z)))) = (vs .0, vs .1 .1 .0, m, tail, a, q, rw e (rw (a₁, z) at y))
+formals-row f k ws v rest (suc i) h vs e x = absurd (omega arith)
+
+pub formals-told : (f k : ℕ) (ws : Text) (v : List Name) (rest : Text) → Told f Formals k ws v rest → (e : ℕ) × (i : ℕ) × Called Formals ws i × FormalsRow e k ws v rest
+formals-told = by-rows Formals (λ f k ws v rest i. FormalsRow f k ws v rest) formals-row
+
+formal-names-row : Row FormalNames FormalNamesRow
+unfolding make csml makes
+formal-names-row f k ws v rest zero h vs e x = (e, x)
+formal-names-row f k ws v rest (suc zero) h vs e (tail, a, b, (mid, y, z)) = (vs .0, tail, vs .1 .0, a, b, rw z at y, e)
+formal-names-row f k ws v rest (suc (suc i)) h vs e x = absurd (omega arith)
+
+pub formal-names-told : (f k : ℕ) (ws : Text) (v : List Name) (rest : Text) → Told f FormalNames k ws v rest → (e : ℕ) × (i : ℕ) × Called FormalNames ws i × FormalNamesRow e k ws v rest i
+formal-names-told = by-rows FormalNames FormalNamesRow formal-names-row
+
+more-formals-row : Row MoreFormals MoreFormalsRow
+unfolding make csml makes
+more-formals-row f k ws v rest zero h vs e x = (e, x)
+more-formals-row f k ws v rest (suc zero) h vs e (tail, a, b, (t₁, a₁, b₁, (mid, y, z))) = (vs .0, vs .1 .0, t₁, vs .1 .1 .0, rw a₁ at a, b₁, rw z at y, e)
+more-formals-row f k ws v rest (suc (suc i)) h vs e x = absurd (omega arith)
+
+pub more-formals-told : (f k : ℕ) (ws : Text) (v : List Name) (rest : Text) → Told f MoreFormals k ws v rest → (e : ℕ) × (i : ℕ) × Called MoreFormals ws i × MoreFormalsRow e k ws v rest i
+more-formals-told = by-rows MoreFormals MoreFormalsRow more-formals-row
+
+after-procedure-row : Row AfterProcedure (λ f k ws v rest i. AfterProcedureRow ws rest i)
+unfolding make csml makes
+after-procedure-row f k ws v rest zero h vs e x = x
+after-procedure-row f k ws v rest (suc zero) h vs e (tail, a, b, z) = (vs .0, rw (← z) a)
+after-procedure-row f k ws v rest (suc (suc i)) h vs e x = absurd (omega arith)
+
+pub after-procedure-told : (f k : ℕ) (ws : Text) (v : Unit) (rest : Text) → Told f AfterProcedure k ws v rest → (e : ℕ) × (i : ℕ) × Called AfterProcedure ws i × AfterProcedureRow ws rest i
+after-procedure-told = by-rows AfterProcedure (λ f k ws v rest i. AfterProcedureRow ws rest i) after-procedure-row
 
 declaration-row : Row Declaration DeclarationRow
 unfolding make csml makes

@@ -2,20 +2,21 @@
 -- Assumes nothing.
 use mathlib.Core.Bool.{Bool, true, false}
 use mathlib.Core.Path.{_≡_}
-use mathlib.Core.List.{List, [], _∷_, _++_}
+use mathlib.Core.List.{List, [], _∷_, _++_, map}
 use Prim.Native.Nat.{ℕ, zero, suc}
-use Rattle.meaning.specs.Tree.{Stmts}
 use Rattle.meaning.specs.Declared as declared
-use Rattle.meaning.specs.Declared.{high, low, inputs, outputs, internals, integers, Source}
+use Rattle.meaning.specs.Declared.{high, low, inputs, outputs, internals, integers}
+use Rattle.meaning.specs.Unexpanded as unexpanded
+use Rattle.meaning.specs.Unexpanded.{Commands, DeclaredName, aVariable, aProcedure, Unexpanded}
 use Rattle.language.specs.Words.{name, number, Word}
-use Rattle.language.specs.Grammar.{Declarations, Declaration, Inputs, MoreInputs, Ending, Booleans, MoreBooleans, BooleanStart, BooleanValue, Integers, MoreIntegers, IntegerStart, Statements}
+use Rattle.language.specs.Grammar.{Declarations, Declaration, Inputs, MoreInputs, Ending, Booleans, MoreBooleans, BooleanStart, BooleanValue, Integers, MoreIntegers, IntegerStart, Statements, Procedure, Formals, FormalNames, MoreFormals, AfterProcedure}
 use Rattle.language.specs.Trees.{Name, nameAt, numberAt}
 use Rattle.descent_law.specs.Told.{Told}
 
 abbrev Text : Type 0
 Text = List Word
 
--- what declarations come to
+-- what declarations of variables come to
 abbrev pub Declared : Type 0
 Declared = List declared.Declaration
 
@@ -24,15 +25,45 @@ abbrev pub Maker : Type 0
 Maker = Name → declared.Ending → Bool → declared.Declaration
 
 -- `program name;`, the declarations, the statements, `endprog`
-abbrev pub ProgramRow : ℕ → ℕ → Text → Source → Text → Type 0
+abbrev pub ProgramRow : ℕ → ℕ → Text → Unexpanded → Text → Type 0
 ProgramRow f k ws v rest =
-    (a : Word) × (n : Word) × (c : Word) × (e : Word) × (tail : Text) × (mid : Text) × (ds : Declared) × (b : Stmts Name)
+    (a : Word) × (n : Word) × (c : Word) × (e : Word) × (tail : Text) × (mid : Text) × (ds : List DeclaredName) × (b : Commands)
     × (ws ≡ a ∷ n ∷ c ∷ tail) × Told f Declarations k tail ds mid × Told f Statements k mid b (e ∷ rest) × (v ≡ record { name = n .bytes; declared = ds; body = b })
 
--- no declaration more; or one, its `;` and those behind it
-abbrev pub DeclarationsRow : ℕ → ℕ → Text → Declared → Text → ℕ → Type 0
+-- no declaration more; or one, its `;` and those behind it; or `procedure`, one and those behind it
+abbrev pub DeclarationsRow : ℕ → ℕ → Text → List DeclaredName → Text → ℕ → Type 0
 DeclarationsRow f k ws v rest zero = (v ≡ []) × (ws ≡ rest)
-DeclarationsRow f k ws v rest (suc i) = (c : Word) × (mid : Text) × (ds : Declared) × (es : Declared) × Told f Declaration k ws ds (c ∷ mid) × Told f Declarations k mid es rest × (v ≡ ds ++ es)
+DeclarationsRow f k ws v rest (suc zero) =
+    (c : Word) × (mid : Text) × (ds : Declared) × (es : List DeclaredName) × Told f Declaration k ws ds (c ∷ mid) × Told f Declarations k mid es rest × (v ≡ map aVariable ds ++ es)
+DeclarationsRow f k ws v rest (suc (suc i)) =
+    (w : Word) × (tail : Text) × (mid : Text) × (on : Text) × (p : unexpanded.Procedure) × (es : List DeclaredName)
+    × (ws ≡ w ∷ tail) × Told f Procedure k tail p mid × Told f AfterProcedure k mid tt on × Told f Declarations k on es rest × (v ≡ aProcedure p ∷ es)
+
+-- a name, the formals, the statements, `endproc`
+abbrev pub ProcedureRow : ℕ → ℕ → Text → unexpanded.Procedure → Text → Type 0
+ProcedureRow f k ws v rest =
+    (n : Word) × (x : Word) × (tail : Text) × (mid : Text) × (fs : List Name) × (b : Commands)
+    × (ws ≡ n ∷ tail) × (n .kind ≡ name) × Told f Formals k tail fs mid × Told f Statements k mid b (x ∷ rest) × (v ≡ record { name = nameAt n; formals = fs; body = b })
+
+-- in parentheses, one level down, the formals
+abbrev pub FormalsRow : ℕ → ℕ → Text → List Name → Text → Type 0
+FormalsRow f k ws v rest = (o : Word) × (c : Word) × (m : ℕ) × (tail : Text) × (ws ≡ o ∷ tail) × (k ≡ suc m) × Told f FormalNames m tail v (c ∷ rest)
+
+-- no formal; or a name, and those behind it
+abbrev pub FormalNamesRow : ℕ → ℕ → Text → List Name → Text → ℕ → Type 0
+FormalNamesRow f k ws v rest zero = (v ≡ []) × (ws ≡ rest)
+FormalNamesRow f k ws v rest (suc i) = (w : Word) × (tail : Text) × (ns : List Name) × (ws ≡ w ∷ tail) × (w .kind ≡ name) × Told f MoreFormals k tail ns rest × (v ≡ nameAt w ∷ ns)
+
+-- no formal more; or a `,`, a name, and those behind it
+abbrev pub MoreFormalsRow : ℕ → ℕ → Text → List Name → Text → ℕ → Type 0
+MoreFormalsRow f k ws v rest zero = (v ≡ []) × (ws ≡ rest)
+MoreFormalsRow f k ws v rest (suc i) =
+    (c : Word) × (w : Word) × (tail : Text) × (ns : List Name) × (ws ≡ c ∷ w ∷ tail) × (w .kind ≡ name) × Told f MoreFormals k tail ns rest × (v ≡ nameAt w ∷ ns)
+
+-- no `;`; or one
+abbrev pub AfterProcedureRow : Text → Text → ℕ → Type 0
+AfterProcedureRow ws rest zero = ws ≡ rest
+AfterProcedureRow ws rest (suc i) = (w : Word) × (ws ≡ w ∷ rest)
 
 -- `input`, `output`, `internal` or `integer`, and its list
 abbrev pub DeclarationRow : ℕ → ℕ → Text → Declared → Text → ℕ → Type 0

@@ -6,12 +6,12 @@ use mathlib.Core.List.{List, _∷_}
 use mathlib.Core.Option.{Option, none, some}
 use Prim.Native.Nat.{ℕ, zero, suc}
 use Prim.Native.String.{String}
-use Rattle.meaning.specs.Tree.{Expr, literal, truth, not, int}
+use Rattle.meaning.specs.Unexpanded.{Term, literal, truth, not, int, parens}
 use Rattle.ll1.specs.Goes.{look}
 use Rattle.ll1.proofs.Tests.{pick}
 use Rattle.language.specs.Words.{Kind, number, the, Word}
 use Rattle.language.specs.Grammar.{Part, Tier, Further, Index, Expression, Strength, between, before, csml, kinds}
-use Rattle.language.specs.Trees.{Name, nameAt, numberAt, Val, operators, joinedBy, nameOrBit, makes}
+use Rattle.language.specs.Trees.{nameAt, numberAt, Val, operators, joinedBy, nameOrBit, makes}
 use Rattle.language.proofs.Claims.{claims}
 use Rattle.descent_law.specs.Gives.{Gives}
 
@@ -28,31 +28,31 @@ abbrev pub Called : Part → List Word → ℕ → Type 0
 Called n ws i = pick claims n (look (kinds ws)) 0 (csml n) ≡ some i
 
 -- what row i of an operand says
-abbrev pub OperandRow : ℕ → ℕ → List Word → Expr Name → List Word → ℕ → Type 0
+abbrev pub OperandRow : ℕ → ℕ → List Word → Term → List Word → ℕ → Type 0
 OperandRow f k ws v rest zero = (w : Word) × (tail : List Word) × (j : Option ℕ) × (ws ≡ w ∷ tail) × Told f Index k tail j rest × (v ≡ nameOrBit (nameAt w) j)
 OperandRow f k ws v rest (suc zero) = (w : Word) × (ws ≡ w ∷ rest) × (w .kind ≡ number) × (v ≡ literal (w .place) (numberAt w))
 OperandRow f k ws v rest (suc (suc zero)) = (w : Word) × (ws ≡ w ∷ rest) × (v ≡ truth (w .place) true)
 OperandRow f k ws v rest (suc (suc (suc zero))) = (w : Word) × (ws ≡ w ∷ rest) × (v ≡ truth (w .place) false)
 OperandRow f k ws v rest (suc (suc (suc (suc zero)))) =
-    (w : Word) × (o : Word) × (c : Word) × (m : ℕ) × (tail : List Word) × (e : Expr Name) × (ws ≡ w ∷ o ∷ tail) × (k ≡ suc m) × Told f Expression m tail e (c ∷ rest) × (v ≡ int (w .place) e)
+    (w : Word) × (o : Word) × (c : Word) × (m : ℕ) × (tail : List Word) × (e : Term) × (ws ≡ w ∷ o ∷ tail) × (k ≡ suc m) × Told f Expression m tail e (c ∷ rest) × (v ≡ int (w .place) e)
 OperandRow f k ws v rest (suc (suc (suc (suc (suc zero))))) =
-    (w : Word) × (c : Word) × (m : ℕ) × (tail : List Word) × (ws ≡ w ∷ tail) × (k ≡ suc m) × Told f Expression m tail v (c ∷ rest)
+    (w : Word) × (c : Word) × (m : ℕ) × (tail : List Word) × (e : Term) × (ws ≡ w ∷ tail) × (k ≡ suc m) × Told f Expression m tail e (c ∷ rest) × (v ≡ parens e)
 OperandRow f k ws v rest (suc (suc (suc (suc (suc (suc i)))))) = ⊥
 
 -- .. and of an expression of the operators that bind at n or higher
-abbrev pub TierRow : ℕ → ℕ → ℕ → List Word → Expr Name → List Word → Option Strength → ℕ → Type 0
+abbrev pub TierRow : ℕ → ℕ → ℕ → List Word → Term → List Word → Option Strength → ℕ → Type 0
 TierRow f n k ws v rest none i = OperandRow f k ws v rest i
 TierRow f n k ws v rest (some (between ops)) i =
-    (mid : List Word) × (left : Expr Name) × (g : Expr Name → Expr Name) × Told f (Tier (suc n)) k ws left mid × Told f (Further n) k mid g rest × (v ≡ g left)
+    (mid : List Word) × (left : Term) × (g : Term → Term) × Told f (Tier (suc n)) k ws left mid × Told f (Further n) k mid g rest × (v ≡ g left)
 TierRow f n k ws v rest (some (before op)) zero =
-    (w : Word) × (m : ℕ) × (tail : List Word) × (e : Expr Name) × (ws ≡ w ∷ tail) × (k ≡ suc m) × Told f (Tier n) m tail e rest × (v ≡ not (w .place) e)
+    (w : Word) × (m : ℕ) × (tail : List Word) × (e : Term) × (ws ≡ w ∷ tail) × (k ≡ suc m) × Told f (Tier n) m tail e rest × (v ≡ not (w .place) e)
 TierRow f n k ws v rest (some (before op)) (suc i) = Told f (Tier (suc n)) k ws v rest
 
 -- .. and of what follows an operand
-abbrev pub FurtherRow : ℕ → ℕ → ℕ → List Word → (Expr Name → Expr Name) → List Word → ℕ → Type 0
+abbrev pub FurtherRow : ℕ → ℕ → ℕ → List Word → (Term → Term) → List Word → ℕ → Type 0
 FurtherRow f n k ws g rest zero = (g ≡ (λ left. left)) × (ws ≡ rest)
 FurtherRow f n k ws g rest (suc c) =
-    (op : String) × (w : Word) × (tail : List Word) × (mid : List Word) × (right : Expr Name) × (h : Expr Name → Expr Name)
+    (op : String) × (w : Word) × (tail : List Word) × (mid : List Word) × (right : Term) × (h : Term → Term)
     × (ws ≡ w ∷ tail) × (w .kind ≡ the op) × Told f (Tier (suc n)) k tail right mid × Told f (Further n) k mid h rest
     × (g ≡ (λ left. h (joinedBy operators op (w .place) left right)))
 

@@ -1,117 +1,35 @@
--- Which row of an expression is called for, and what an operator's sum is: by computation over the kinds of words.
+-- What an operator's sum is, by the number of its kind.
 -- Assumes nothing.
-use mathlib.Core.Bool.{Bool, true, cond, not as opposite}
-use mathlib.Core.Path.{_≡_, refl, sym, _∙_, ap}
+use mathlib.Core.Path.{_≡_, refl, ap}
 use mathlib.Core.List.{List}
-use mathlib.Core.Option.{Option, none, some}
-use Prim.Native.Nat.{ℕ, zero, suc, _≤_, _<_}
+use mathlib.Core.Option.{Option}
+use Prim.Native.Nat.{ℕ, zero, suc}
 use Prim.Native.String.{String}
 use native.Mathlib.Omega.{arith}
-use lib.Dec.{eqb}
-use lib.ListN.{getElem?}
-use borrow.Author.Tests.{eqb-true, eqb-false, ne-eqb, not-true}
 use Rattle.meaning.specs.Numbers.{Variable}
-use Rattle.meaning.specs.Tree.{Expr}
-use Rattle.ll1.proofs.Tests.{has, beginRow, pick}
-use Rattle.ll1.proofs.Sets.{clash}
-use Rattle.language.specs.Words.{Kind, the, signs, reserved, bytes, same}
-use Rattle.language.specs.Grammar.{Tier, Further, Index, Strength, between, before, binding, csml}
-use Rattle.language.specs.Trees.{Name, operators, joinedBy}
-use Rattle.language.proofs.EveryPart.{past}
-use Rattle.language.proofs.Claims.{claims, first, empty, follow, sameKind, same-true, same-self}
-use Rattle.words.specs.Kinds.{numbered, spellings, kindCount}
-use Rattle.hand.proofs.Chosen.{upTo, up-to, agrees, Pick, Decides}
+use Rattle.meaning.specs.Unexpanded.{Term}
+use Rattle.meaning.specs.Base.{baseTerm}
+use Rattle.meaning.specs.Expansion.{Bound, replaced}
+use Rattle.language.specs.Words.{the, signs, reserved, bytes, same}
+use Rattle.language.specs.Trees.{operators, joinedBy}
+use Rattle.words.specs.Kinds.{numbered, spellings}
 use Rattle.parts.specs.declared.Notes.{Notes}
 use Rattle.parts.specs.Sum.{sum, counted, joinSum}
-use Rattle.exprs.specs.Choose.{operandRow, strengthOf}
+use Rattle.tiers.specs.Choose.{strengthOf}
+use Rattle.tiers.proofs.Chosen.{strength-past}
+use Rattle.exprs.specs.Came.{sumUnder}
 
--- ---- operands
-
-past-operands : (n : ℕ) → Decides (Tier (past n)) operandRow
-unfolding has beginRow pick csml binding claims first empty follow agrees upTo numbered spellings signs reserved operandRow
-past-operands n = refl
-
-pub operand-rows : (n : ℕ) → 6 ≤ n → Decides (Tier n) operandRow
-operand-rows zero h = absurd (omega arith)
-operand-rows (suc zero) h = absurd (omega arith)
-operand-rows (suc (suc zero)) h = absurd (omega arith)
-operand-rows (suc (suc (suc zero))) h = absurd (omega arith)
-operand-rows (suc (suc (suc (suc zero)))) h = absurd (omega arith)
-operand-rows (suc (suc (suc (suc (suc zero))))) h = absurd (omega arith)
-operand-rows (suc (suc (suc (suc (suc (suc n)))))) h = past-operands n
-
-pub index-rows : Decides Index (λ k. cond (eqb k 16) 1 0)
-unfolding has beginRow pick csml binding claims first empty follow agrees upTo numbered spellings signs reserved
-index-rows = refl
-
--- ---- operators between operands
-
-settles : Option ℕ → Bool → Bool
-settles none b = true
-settles (some zero) b = opposite b
-settles (some (suc c)) b = b
-
-all-further : upTo (λ n. upTo (λ k. settles (Pick (Further n) k) (eqb (strengthOf k) n)) kindCount) 6 ≡ true
-unfolding has beginRow pick csml binding claims first empty follow settles upTo numbered spellings signs reserved strengthOf
-all-further = refl
-
-further-test : (n k : ℕ) → n < 6 → k < kindCount → settles (Pick (Further n) k) (eqb (strengthOf k) n) ≡ true
-further-test n k h g =
-    up-to (λ k. settles (Pick (Further n) k) (eqb (strengthOf k) n)) kindCount k
-    (up-to (λ n. upTo (λ k. settles (Pick (Further n) k) (eqb (strengthOf k) n)) kindCount) 6 n all-further h) g
-
-pub further-ends : (n k : ℕ) → n < 6 → k < kindCount → Pick (Further n) k ≡ some 0 → ¬ (strengthOf k ≡ n)
-unfolding settles
-further-ends n k h g e = eqb-false (strengthOf k) n (not-true (eqb (strengthOf k) n) (rw e at (further-test n k h g)))
-
-pub further-on : (n k c : ℕ) → n < 6 → k < kindCount → Pick (Further n) k ≡ some (suc c) → strengthOf k ≡ n
-unfolding settles
-further-on n k c h g e = eqb-true (strengthOf k) n (rw e at (further-test n k h g))
-
--- ---- an operator before its operand
-
-unfoldable pub beforeTest : Option Strength → Option ℕ → Kind → Bool
-beforeTest none o k = true
-beforeTest (some (between ops)) o k = true
-beforeTest (some (before op)) none k = true
-beforeTest (some (before op)) (some zero) k = sameKind k (the op)
-beforeTest (some (before op)) (some (suc c)) k = opposite (sameKind k (the op))
-
-all-before : upTo (λ n. upTo (λ k. beforeTest (getElem? binding n) (Pick (Tier n) k) (numbered k)) kindCount) 6 ≡ true
-unfolding has beginRow pick csml binding claims first empty follow beforeTest upTo numbered spellings signs reserved
-all-before = refl
-
-pub before-test : (n k : ℕ) → n < 6 → k < kindCount → beforeTest (getElem? binding n) (Pick (Tier n) k) (numbered k) ≡ true
-before-test n k h g =
-    up-to (λ k. beforeTest (getElem? binding n) (Pick (Tier n) k) (numbered k)) kindCount k
-    (up-to (λ n. upTo (λ k. beforeTest (getElem? binding n) (Pick (Tier n) k) (numbered k)) kindCount) 6 n all-before h) g
-
-pub before-here : (n k : ℕ) (op : String) → n < 6 → k < kindCount → getElem? binding n ≡ some (before op) → Pick (Tier n) k ≡ some 0 → numbered k ≡ the op
-unfolding beforeTest
-before-here n k op h g e q = same-true (numbered k) (the op) (rw (e, q) at (before-test n k h g))
-
-pub before-not : (n k c : ℕ) (op : String) → n < 6 → k < kindCount → getElem? binding n ≡ some (before op) → Pick (Tier n) k ≡ some (suc c) → ¬ (numbered k ≡ the op)
-unfolding beforeTest
-before-not n k c op h g e q r = clash (sym (ap (λ (x : Kind). sameKind x (the op)) r ∙ same-self (the op)) ∙ not-true (sameKind (numbered k) (the op)) (rw (e, q) at (before-test n k h g)))
-
--- ---- the sum of an operator
-
--- the operators are among the first kinds
-pub strength-past : (k : ℕ) → 25 < k → strengthOf k ≡ 255
-unfolding strengthOf
-strength-past k h = rw (ne-eqb k 6 (λ e. omega arith), ne-eqb k 4 (λ e. omega arith), ne-eqb k 18 (λ e. omega arith), ne-eqb k 19 (λ e. omega arith), ne-eqb k 20 (λ e. omega arith), ne-eqb k 3 (λ e. omega arith), ne-eqb k 21 (λ e. omega arith), ne-eqb k 22 (λ e. omega arith), ne-eqb k 23 (λ e. omega arith), ne-eqb k 24 (λ e. omega arith), ne-eqb k 25 (λ e. omega arith)) refl
-
-module _ (look : List ℕ → Option Variable) where
-  pub join-op : (k : ℕ) (op : String) (p : ℕ) (a b : Expr Name) (n : Notes) (t : List ℕ) → numbered k ≡ the op → ¬ (strengthOf k ≡ 255)
-      → sum look (joinedBy operators op p a b) n t ≡ joinSum k p (sum look a n t) (sum look b (counted (sum look a n t .notes) p) (sum look a n t .bytes))
-  unfolding numbered spellings signs reserved operators joinedBy bytes same strengthOf sum
+module _ (look : List ℕ → Option Variable) (to : ℕ → ℕ) (bound : List (Bound Term)) where
+  pub join-op : (k : ℕ) (op : String) (p : ℕ) (a b : Term) (n : Notes) (t : List ℕ) → numbered k ≡ the op → ¬ (strengthOf k ≡ 255)
+      → sumUnder look to bound (joinedBy operators op p a b) n t ≡ joinSum k (to p) (sumUnder look to bound a n t) (sumUnder look to bound b (counted (sumUnder look to bound a n t .notes) (to p)) (sumUnder look to bound a n t .bytes))
+  unfolding numbered spellings signs reserved operators joinedBy bytes same strengthOf sum baseTerm replaced
   join-op zero op p a b n t e g = absurd (g refl)
   join-op (suc zero) op p a b n t e g = absurd (g refl)
   join-op (suc (suc zero)) op p a b n t e g = absurd (g refl)
-  join-op (suc (suc (suc zero))) op p a b n t e g = let q : op ≡ "|" = cc in ap (λ (o : String). sum look (joinedBy operators o p a b) n t) q
-  join-op (suc (suc (suc (suc zero)))) op p a b n t e g = let q : op ≡ "!=" = cc in ap (λ (o : String). sum look (joinedBy operators o p a b) n t) q
+  join-op (suc (suc (suc zero))) op p a b n t e g = let q : op ≡ "|" = cc in ap (λ (o : String). sumUnder look to bound (joinedBy operators o p a b) n t) q
+  join-op (suc (suc (suc (suc zero)))) op p a b n t e g = let q : op ≡ "!=" = cc in ap (λ (o : String). sumUnder look to bound (joinedBy operators o p a b) n t) q
   join-op (suc (suc (suc (suc (suc zero))))) op p a b n t e g = absurd (g refl)
-  join-op (suc (suc (suc (suc (suc (suc zero)))))) op p a b n t e g = let q : op ≡ "==" = cc in ap (λ (o : String). sum look (joinedBy operators o p a b) n t) q
+  join-op (suc (suc (suc (suc (suc (suc zero)))))) op p a b n t e g = let q : op ≡ "==" = cc in ap (λ (o : String). sumUnder look to bound (joinedBy operators o p a b) n t) q
   join-op (suc (suc (suc (suc (suc (suc (suc zero))))))) op p a b n t e g = absurd (g refl)
   join-op (suc (suc (suc (suc (suc (suc (suc (suc zero)))))))) op p a b n t e g = absurd (g refl)
   join-op (suc (suc (suc (suc (suc (suc (suc (suc (suc zero))))))))) op p a b n t e g = absurd (g refl)
@@ -123,12 +41,12 @@ module _ (look : List ℕ → Option Variable) where
   join-op (suc (suc (suc (suc (suc (suc (suc (suc (suc (suc (suc (suc (suc (suc (suc zero))))))))))))))) op p a b n t e g = absurd (g refl)
   join-op (suc (suc (suc (suc (suc (suc (suc (suc (suc (suc (suc (suc (suc (suc (suc (suc zero)))))))))))))))) op p a b n t e g = absurd (g refl)
   join-op (suc (suc (suc (suc (suc (suc (suc (suc (suc (suc (suc (suc (suc (suc (suc (suc (suc zero))))))))))))))))) op p a b n t e g = absurd (g refl)
-  join-op (suc (suc (suc (suc (suc (suc (suc (suc (suc (suc (suc (suc (suc (suc (suc (suc (suc (suc zero)))))))))))))))))) op p a b n t e g = let q : op ≡ ">" = cc in ap (λ (o : String). sum look (joinedBy operators o p a b) n t) q
-  join-op (suc (suc (suc (suc (suc (suc (suc (suc (suc (suc (suc (suc (suc (suc (suc (suc (suc (suc (suc zero))))))))))))))))))) op p a b n t e g = let q : op ≡ "<" = cc in ap (λ (o : String). sum look (joinedBy operators o p a b) n t) q
-  join-op (suc (suc (suc (suc (suc (suc (suc (suc (suc (suc (suc (suc (suc (suc (suc (suc (suc (suc (suc (suc zero)))))))))))))))))))) op p a b n t e g = let q : op ≡ "&" = cc in ap (λ (o : String). sum look (joinedBy operators o p a b) n t) q
-  join-op (suc (suc (suc (suc (suc (suc (suc (suc (suc (suc (suc (suc (suc (suc (suc (suc (suc (suc (suc (suc (suc zero))))))))))))))))))))) op p a b n t e g = let q : op ≡ "+" = cc in ap (λ (o : String). sum look (joinedBy operators o p a b) n t) q
-  join-op (suc (suc (suc (suc (suc (suc (suc (suc (suc (suc (suc (suc (suc (suc (suc (suc (suc (suc (suc (suc (suc (suc zero)))))))))))))))))))))) op p a b n t e g = let q : op ≡ "-" = cc in ap (λ (o : String). sum look (joinedBy operators o p a b) n t) q
-  join-op (suc (suc (suc (suc (suc (suc (suc (suc (suc (suc (suc (suc (suc (suc (suc (suc (suc (suc (suc (suc (suc (suc (suc zero))))))))))))))))))))))) op p a b n t e g = let q : op ≡ "*" = cc in ap (λ (o : String). sum look (joinedBy operators o p a b) n t) q
-  join-op (suc (suc (suc (suc (suc (suc (suc (suc (suc (suc (suc (suc (suc (suc (suc (suc (suc (suc (suc (suc (suc (suc (suc (suc zero)))))))))))))))))))))))) op p a b n t e g = let q : op ≡ "/" = cc in ap (λ (o : String). sum look (joinedBy operators o p a b) n t) q
-  join-op (suc (suc (suc (suc (suc (suc (suc (suc (suc (suc (suc (suc (suc (suc (suc (suc (suc (suc (suc (suc (suc (suc (suc (suc (suc zero))))))))))))))))))))))))) op p a b n t e g = let q : op ≡ "%" = cc in ap (λ (o : String). sum look (joinedBy operators o p a b) n t) q
+  join-op (suc (suc (suc (suc (suc (suc (suc (suc (suc (suc (suc (suc (suc (suc (suc (suc (suc (suc zero)))))))))))))))))) op p a b n t e g = let q : op ≡ ">" = cc in ap (λ (o : String). sumUnder look to bound (joinedBy operators o p a b) n t) q
+  join-op (suc (suc (suc (suc (suc (suc (suc (suc (suc (suc (suc (suc (suc (suc (suc (suc (suc (suc (suc zero))))))))))))))))))) op p a b n t e g = let q : op ≡ "<" = cc in ap (λ (o : String). sumUnder look to bound (joinedBy operators o p a b) n t) q
+  join-op (suc (suc (suc (suc (suc (suc (suc (suc (suc (suc (suc (suc (suc (suc (suc (suc (suc (suc (suc (suc zero)))))))))))))))))))) op p a b n t e g = let q : op ≡ "&" = cc in ap (λ (o : String). sumUnder look to bound (joinedBy operators o p a b) n t) q
+  join-op (suc (suc (suc (suc (suc (suc (suc (suc (suc (suc (suc (suc (suc (suc (suc (suc (suc (suc (suc (suc (suc zero))))))))))))))))))))) op p a b n t e g = let q : op ≡ "+" = cc in ap (λ (o : String). sumUnder look to bound (joinedBy operators o p a b) n t) q
+  join-op (suc (suc (suc (suc (suc (suc (suc (suc (suc (suc (suc (suc (suc (suc (suc (suc (suc (suc (suc (suc (suc (suc zero)))))))))))))))))))))) op p a b n t e g = let q : op ≡ "-" = cc in ap (λ (o : String). sumUnder look to bound (joinedBy operators o p a b) n t) q
+  join-op (suc (suc (suc (suc (suc (suc (suc (suc (suc (suc (suc (suc (suc (suc (suc (suc (suc (suc (suc (suc (suc (suc (suc zero))))))))))))))))))))))) op p a b n t e g = let q : op ≡ "*" = cc in ap (λ (o : String). sumUnder look to bound (joinedBy operators o p a b) n t) q
+  join-op (suc (suc (suc (suc (suc (suc (suc (suc (suc (suc (suc (suc (suc (suc (suc (suc (suc (suc (suc (suc (suc (suc (suc (suc zero)))))))))))))))))))))))) op p a b n t e g = let q : op ≡ "/" = cc in ap (λ (o : String). sumUnder look to bound (joinedBy operators o p a b) n t) q
+  join-op (suc (suc (suc (suc (suc (suc (suc (suc (suc (suc (suc (suc (suc (suc (suc (suc (suc (suc (suc (suc (suc (suc (suc (suc (suc zero))))))))))))))))))))))))) op p a b n t e g = let q : op ≡ "%" = cc in ap (λ (o : String). sumUnder look to bound (joinedBy operators o p a b) n t) q
   join-op (suc (suc (suc (suc (suc (suc (suc (suc (suc (suc (suc (suc (suc (suc (suc (suc (suc (suc (suc (suc (suc (suc (suc (suc (suc (suc k)))))))))))))))))))))))))) op p a b n t e g = absurd (g (strength-past (suc (suc (suc (suc (suc (suc (suc (suc (suc (suc (suc (suc (suc (suc (suc (suc (suc (suc (suc (suc (suc (suc (suc (suc (suc (suc k)))))))))))))))))))))))))) (omega arith)))

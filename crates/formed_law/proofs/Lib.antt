@@ -1,3 +1,2 @@
-pub mod Everywhere
 pub mod Filled
 pub mod Formed

@@ -119,7 +119,7 @@ fn next_turn(rows: &Rows, starts: &Starts, p: usize, kind: u8, k: u8) -> Turn
 }
 
 // Reads the row at a place from the word `first` on, with so many levels left. Its stack is bounded: a row's last part is read in the same call,
-// so 16 * levels + the calls that the row needs before a level opens falls with each call. The start has 16 * 32 + 7: 520 calls at most stand
+// so 16 * levels + the calls that the row needs before a level opens falls with each call. The start has 16 * 32 + 9: 522 calls at most stand
 // open, of 240 bytes on x86-64.
 fn read(rows: &Rows, starts: &Starts, s: &[u8], at: usize, first: Here, levels: u8) -> Got
     requires { ⌜ Ready (now rows) (now starts) (now s) at first levels ⌝ }

@@ -8,7 +8,7 @@ use lib.Dec.{eqb}
 use lib.ListN.{getD}
 use borrow.Author.Tests.{eqb-true}
 use Rattle.ll1.proofs.Sets.{and-left, and-right}
-use Rattle.language.specs.Grammar.{Part, Program, Declarations, Declaration, Inputs, MoreInputs, Ending, Booleans, MoreBooleans, BooleanStart, BooleanValue, Integers, MoreIntegers, IntegerStart, Statements, AfterStatement, NextStatement, Statement, Else, Cases, Branches, Target, Index, Tier, Further}
+use Rattle.language.specs.Grammar.{Part, Program, Declarations, Declaration, Inputs, MoreInputs, Ending, Booleans, MoreBooleans, BooleanStart, BooleanValue, Integers, MoreIntegers, IntegerStart, Statements, AfterStatement, NextStatement, Statement, Else, Cases, Branches, Target, Index, Procedure, Formals, FormalNames, MoreFormals, AfterProcedure, AfterName, Actuals, MoreActuals, Tier, Further}
 
 unfoldable pub tag : Part → ℕ
 tag Program = 0
@@ -33,8 +33,16 @@ tag Cases = 18
 tag Branches = 19
 tag Target = 20
 tag Index = 21
-tag (Tier n) = 22
-tag (Further n) = 23
+tag Procedure = 22
+tag Formals = 23
+tag FormalNames = 24
+tag MoreFormals = 25
+tag AfterProcedure = 26
+tag AfterName = 27
+tag Actuals = 28
+tag MoreActuals = 29
+tag (Tier n) = 30
+tag (Further n) = 31
 
 unfoldable pub strength : Part → ℕ
 strength Program = 0
@@ -59,11 +67,19 @@ strength Cases = 0
 strength Branches = 0
 strength Target = 0
 strength Index = 0
+strength Procedure = 0
+strength Formals = 0
+strength FormalNames = 0
+strength MoreFormals = 0
+strength AfterProcedure = 0
+strength AfterName = 0
+strength Actuals = 0
+strength MoreActuals = 0
 strength (Tier n) = n
 strength (Further n) = n
 
 partOf : ℕ → ℕ → Part
-partOf a n = getD (Program ∷ Declarations ∷ Declaration ∷ Inputs ∷ MoreInputs ∷ Ending ∷ Booleans ∷ MoreBooleans ∷ BooleanStart ∷ BooleanValue ∷ Integers ∷ MoreIntegers ∷ IntegerStart ∷ Statements ∷ AfterStatement ∷ NextStatement ∷ Statement ∷ Else ∷ Cases ∷ Branches ∷ Target ∷ Index ∷ Tier n ∷ Further n ∷ []) a Program
+partOf a n = getD (Program ∷ Declarations ∷ Declaration ∷ Inputs ∷ MoreInputs ∷ Ending ∷ Booleans ∷ MoreBooleans ∷ BooleanStart ∷ BooleanValue ∷ Integers ∷ MoreIntegers ∷ IntegerStart ∷ Statements ∷ AfterStatement ∷ NextStatement ∷ Statement ∷ Else ∷ Cases ∷ Branches ∷ Target ∷ Index ∷ Procedure ∷ Formals ∷ FormalNames ∷ MoreFormals ∷ AfterProcedure ∷ AfterName ∷ Actuals ∷ MoreActuals ∷ Tier n ∷ Further n ∷ []) a Program
 
 back : (x : Part) → partOf (tag x) (strength x) ≡ x
 unfolding partOf tag strength
@@ -89,6 +105,14 @@ back Cases = refl
 back Branches = refl
 back Target = refl
 back Index = refl
+back Procedure = refl
+back Formals = refl
+back FormalNames = refl
+back MoreFormals = refl
+back AfterProcedure = refl
+back AfterName = refl
+back Actuals = refl
+back MoreActuals = refl
 back (Tier n) = refl
 back (Further n) = refl
 

@@ -1,25 +1,27 @@
--- What the readers of statements promise.
+-- What the readers of statements promise: for all words that the text has from there on, whatever they come to by the grammar, under open calls as they are known.
 -- Assumes nothing.
 use mathlib.Core.Bool.{Bool}
 use mathlib.Core.Path.{_≡_}
 use mathlib.Core.List.{List, _∷_}
-use mathlib.Core.Option.{Option}
-use Prim.Native.Nat.{ℕ, _+_, _*_, _≤_}
-use Rattle.meaning.specs.Tree.{Expr, Stmt, Stmts, Cases, case, Branches, _∥_}
-use Rattle.meaning.specs.Numbers.{Variable}
+use Prim.Native.Nat.{ℕ, _+_, _-_, _*_, _≤_, _<_}
+use Rattle.meaning.specs.Tree.{Name}
+use Rattle.meaning.specs.Unexpanded.{Term, Command, call, Commands, Tests, case, Strands, _∥_}
 use Rattle.language.specs.Words.{Word}
 use Rattle.language.specs.Grammar as grammar
-use Rattle.language.specs.Grammar.{Expression, Statement, Statements}
-use Rattle.language.specs.Trees.{Name, headAt}
+use Rattle.language.specs.Grammar.{Expression, Statement, Statements, Actuals, mostLevels}
+use Rattle.language.specs.Trees.{nameAt}
 use Rattle.descent_law.specs.Told.{Told}
 use Rattle.descent_law.specs.Rows.{StatementRow}
 use Rattle.hand.specs.declared.Here.{Here}
 use Rattle.hand.specs.Along.{Stands, Near}
+use Rattle.frames_law.specs.Frames.{noPlace}
+use Rattle.frames.specs.declared.Under.{Under}
 use Rattle.parts.specs.Beside.{treeBytes, Beside, beside}
 use Rattle.items.specs.declared.Marks.{Marks}
 use Rattle.items.specs.declared.Read.{Read}
 use Rattle.items.specs.declared.Tried.{Tried}
-use Rattle.items.specs.Walk.{Walked, walked, walkedOf, Test, testOf, testAt, finished, branched, walk, walkAll, walkCases, walkEach}
+use Rattle.items.specs.Walk.{Walked, walked, walkedOf, Test, testOf, finished, branched}
+use Rattle.items.specs.Under.{Scope, senseOf, testIn, oneIn, allIn, testsIn, eachIn}
 
 -- ---- a node written
 
@@ -59,46 +61,77 @@ pub record TestTells (s : List ℕ) (rest : List Word) (x : Test) (u : List ℕ)
   pub word : Stands s (r .word) rest
   pub sums : testOf r u ≡ x
 
+-- G9: the levels open around, with k left
+abbrev pub around : ℕ → ℕ
+around k = mostLevels - k
+
 -- a test, from its first word on
-pub record TestCame (look : List ℕ → Option Variable) (s : List ℕ) (k : ℕ) (h : Here) (m : Marks) (p : ℕ) (t u : List ℕ) (r : Tried) : Type 0 where
+pub record TestCame (s z : List ℕ) (count : ℕ) (under : Under) (k : ℕ) (h : Here) (m : Marks) (p : ℕ) (t u : List ℕ) (r : Tried) : Type 0 where
   pub on : On s h t u (r .word)
-  pub told : (ws : List Word) → Stands s h ws → (f : ℕ) (e : Expr Name) (c : Word) (rest : List Word) → Told f Expression k ws e (c ∷ rest) → TestTells s rest (testAt look e p (walked m t)) u r
+  pub told : (o : Scope s z count under) (ws : List Word) → Stands s h ws → (f : ℕ) (e : Term) (c : Word) (rest : List Word) → Told f Expression k ws e (c ∷ rest) → TestTells s rest (testIn (senseOf count o) e p (walked m t)) u r
 
 -- a statement of the row that its first word calls for
-pub record RowCame (look : List ℕ → Option Variable) (s : List ℕ) (k : ℕ) (l b : Bool) (row : ℕ) (h : Here) (m : Marks) (t u : List ℕ) (r : Read) : Type 0 where
+pub record RowCame (s z : List ℕ) (count : ℕ) (under : Under) (k : ℕ) (l b : Bool) (row : ℕ) (h : Here) (m : Marks) (t u : List ℕ) (r : Read) : Type 0 where
   pub on : On s h t u (r .word)
-  pub told : (ws : List Word) → Stands s h ws → (f : ℕ) (v : Stmt Name) (rest : List Word) → StatementRow f k ws v rest row → Tells s rest (walk look v l b (walked m t)) u r
+  pub told : (o : Scope s z count under) (ws : List Word) → Stands s h ws → (f : ℕ) (v : Command) (rest : List Word) → StatementRow f k ws v rest row → Tells s rest (oneIn (senseOf count o) (around k) v l b (walked m t)) u r
+
+-- a call of these actuals stands there, a statement that begins with a name
+pub record CallAt (s : List ℕ) (h : Here) (v : Name) (ts : List Term) (rest : List Word) : Type 0 where
+  pub fuel : ℕ
+  pub levels : ℕ
+  pub few : levels ≤ mostLevels
+  pub word : Word
+  pub opens : Word
+  pub closes : Word
+  pub tail : List Word
+  pub stands : Stands s h (word ∷ opens ∷ tail)
+  pub told : Told fuel Actuals levels tail ts (closes ∷ rest)
+  pub named : v ≡ nameAt word
+  pub row-fuel : ℕ
+  pub row-levels : ℕ
+  pub row-few : row-levels ≤ mostLevels
+  pub row : StatementRow row-fuel row-levels (word ∷ opens ∷ tail) (call v ts) rest 5
+
+-- a call inside another, with whatever levels open around
+pub record CallCame (s z : List ℕ) (count : ℕ) (under : Under) (l b : Bool) (h : Here) (m : Marks) (t u : List ℕ) (r : Read) : Type 0 where
+  pub on : On s h t u (r .word)
+  pub told : (o : Scope s z count under) → under .at < noPlace → (n : ℕ) (v : Name) (ts : List Term) (rest : List Word) → CallAt s h v ts rest → Tells s rest (oneIn (senseOf count o) n (call v ts) l b (walked m t)) u r
+
+-- a call in the program's own text
+pub record OutermostCame (s z : List ℕ) (count : ℕ) (under : Under) (k : ℕ) (l b : Bool) (h : Here) (m : Marks) (t u : List ℕ) (r : Read) : Type 0 where
+  pub on : On s h t u (r .word)
+  pub told : (o : Scope s z count under) → ¬ (under .at < noPlace) → (v : Name) (ts : List Term) (rest : List Word) → CallAt s h v ts rest → Tells s rest (oneIn (senseOf count o) (around k) (call v ts) l b (walked m t)) u r
 
 -- a statement
-pub record One (look : List ℕ → Option Variable) (s : List ℕ) (k : ℕ) (l b : Bool) (h : Here) (m : Marks) (t u : List ℕ) (r : Read) : Type 0 where
+pub record One (s z : List ℕ) (count : ℕ) (under : Under) (k : ℕ) (l b : Bool) (h : Here) (m : Marks) (t u : List ℕ) (r : Read) : Type 0 where
   pub on : On s h t u (r .word)
-  pub told : (ws : List Word) → Stands s h ws → (f : ℕ) (v : Stmt Name) (rest : List Word) → Told f Statement k ws v rest → Tells s rest (walk look v l b (walked m t)) u r
+  pub told : (o : Scope s z count under) (ws : List Word) → Stands s h ws → (f : ℕ) (v : Command) (rest : List Word) → Told f Statement k ws v rest → Tells s rest (oneIn (senseOf count o) (around k) v l b (walked m t)) u r
 
 -- a list of statements
-pub record All (look : List ℕ → Option Variable) (s : List ℕ) (k : ℕ) (l b : Bool) (h : Here) (m : Marks) (t u : List ℕ) (r : Read) : Type 0 where
+pub record All (s z : List ℕ) (count : ℕ) (under : Under) (k : ℕ) (l b : Bool) (h : Here) (m : Marks) (t u : List ℕ) (r : Read) : Type 0 where
   pub on : On s h t u (r .word)
-  pub told : (ws : List Word) → Stands s h ws → (f : ℕ) (v : Stmts Name) (rest : List Word) → Told f Statements k ws v rest → Tells s rest (walkAll look v l b (walked m t)) u r
+  pub told : (o : Scope s z count under) (ws : List Word) → Stands s h ws → (f : ℕ) (v : Commands) (rest : List Word) → Told f Statements k ws v rest → Tells s rest (allIn (senseOf count o) (around k) v l b (walked m t)) u r
 
 -- a case, from its first word on
-pub record CaseCame (look : List ℕ → Option Variable) (s : List ℕ) (k : ℕ) (l b : Bool) (h : Here) (m : Marks) (t u : List ℕ) (r : Read) : Type 0 where
+pub record CaseCame (s z : List ℕ) (count : ℕ) (under : Under) (k : ℕ) (l b : Bool) (h : Here) (m : Marks) (t u : List ℕ) (r : Read) : Type 0 where
   pub on : On s h t u (r .word)
   pub past : h .next ≤ r .word .place
-  pub told : (ws : List Word) → Stands s h ws → (f : ℕ) (w c : Word) (tail mid rest : List Word) (e : Expr Name) (x : Stmts Name) → ws ≡ w ∷ tail → Told f Expression k tail e (c ∷ mid) → Told f Statements k mid x rest
-      → (cs : Cases Name) → Stands s (r .word) rest × (walkCases look cs l b (walkedOf r u) ≡ walkCases look (case (headAt w) e x cs) l b (walked m t))
+  pub told : (o : Scope s z count under) (ws : List Word) → Stands s h ws → (f : ℕ) (w c : Word) (tail mid rest : List Word) (e : Term) (x : Commands) → ws ≡ w ∷ tail → Told f Expression k tail e (c ∷ mid) → Told f Statements k mid x rest
+      → (ts : Tests) → Stands s (r .word) rest × (testsIn (senseOf count o) (around k) ts l b (walkedOf r u) ≡ testsIn (senseOf count o) (around k) (case (w .place) e x ts) l b (walked m t))
 
 -- cases, up to the default
-pub record CasesCame (look : List ℕ → Option Variable) (s : List ℕ) (k : ℕ) (l b : Bool) (h : Here) (m : Marks) (t u : List ℕ) (r : Read) : Type 0 where
+pub record CasesCame (s z : List ℕ) (count : ℕ) (under : Under) (k : ℕ) (l b : Bool) (h : Here) (m : Marks) (t u : List ℕ) (r : Read) : Type 0 where
   pub on : On s h t u (r .word)
-  pub told : (ws : List Word) → Stands s h ws → (f : ℕ) (g : Stmts Name → Cases Name) (rest : List Word) → Told f grammar.Cases k ws g rest
-      → (d : Stmts Name) → Stands s (r .word) rest × (walkAll look d l b (walkedOf r u) ≡ walkCases look (g d) l b (walked m t))
+  pub told : (o : Scope s z count under) (ws : List Word) → Stands s h ws → (f : ℕ) (g : Commands → Tests) (rest : List Word) → Told f grammar.Cases k ws g rest
+      → (d : Commands) → Stands s (r .word) rest × (allIn (senseOf count o) (around k) d l b (walkedOf r u) ≡ testsIn (senseOf count o) (around k) (g d) l b (walked m t))
 
 -- a branch, for whatever branches follow
-pub record BranchCame (look : List ℕ → Option Variable) (s : List ℕ) (k : ℕ) (l : Bool) (h : Here) (m : Marks) (t u : List ℕ) (r : Read) : Type 0 where
+pub record BranchCame (s z : List ℕ) (count : ℕ) (under : Under) (k : ℕ) (l : Bool) (h : Here) (m : Marks) (t u : List ℕ) (r : Read) : Type 0 where
   pub on : On s h t u (r .word)
-  pub told : (ws : List Word) → Stands s h ws → (f : ℕ) (x : Stmts Name) (rest : List Word) → Told f Statements k ws x rest
-      → (bs : Branches Name) → Stands s (r .word) rest × (walkEach look bs l (walkedOf r u) ≡ walkEach look (x ∥ bs) l (walked m t))
+  pub told : (o : Scope s z count under) (ws : List Word) → Stands s h ws → (f : ℕ) (x : Commands) (rest : List Word) → Told f Statements k ws x rest
+      → (bs : Strands) → Stands s (r .word) rest × (eachIn (senseOf count o) (around k) bs l (walkedOf r u) ≡ eachIn (senseOf count o) (around k) (x ∥ bs) l (walked m t))
 
 -- branches, as long as there are any
-pub record BranchesCame (look : List ℕ → Option Variable) (s : List ℕ) (k : ℕ) (l : Bool) (h : Here) (m : Marks) (t u : List ℕ) (r : Read) : Type 0 where
+pub record BranchesCame (s z : List ℕ) (count : ℕ) (under : Under) (k : ℕ) (l : Bool) (h : Here) (m : Marks) (t u : List ℕ) (r : Read) : Type 0 where
   pub on : On s h t u (r .word)
-  pub told : (ws : List Word) → Stands s h ws → (f : ℕ) (bs : Branches Name) (rest : List Word) → Told f grammar.Branches k ws bs rest → Tells s rest (walkEach look bs l (walked m t)) u r
+  pub told : (o : Scope s z count under) (ws : List Word) → Stands s h ws → (f : ℕ) (bs : Strands) (rest : List Word) → Told f grammar.Branches k ws bs rest → Tells s rest (eachIn (senseOf count o) (around k) bs l (walked m t)) u r

@@ -26,9 +26,9 @@ statementRow k =
     cond (eqb k 0) 5 (cond (ltb k 35) 13 (cond (ltb k 40) (k - 35) (cond (eqb k 40) 6 (cond (eqb k 44) 7 (cond (eqb k 46) 8 (cond (eqb k 48) 9
     (cond (eqb k 49) 10 (cond (eqb k 53) 11 (cond (eqb k 54) 12 13)))))))))
 
--- the rows with no statement inside
+-- the rows with no statement inside that do not begin with a name
 unfoldable pub isPlain : ℕ → Bool
-isPlain r = cond (ltb r 6) true (cond (eqb r 9) true (eqb r 11))
+isPlain r = cond (ltb r 5) true (cond (eqb r 9) true (eqb r 11))
 
 -- ---- marks
 

@@ -4,6 +4,7 @@ ghost use mathlib.Core.List.{List};
 ghost use Prim.Native.Nat.{ℕ, max};
 ghost use Rattle.parts.specs.Sum.{sumOf};
 ghost use Rattle.items.specs.Walk as spec;
+ghost use Rattle.items.specs.Under.{sixAt, nineAt};
 use crate::Marks;
 use parts::Got;
 use parts::Notes;
@@ -38,7 +39,7 @@ fn more(n: u16) -> u16
 }
 
 // A fault 9 at a place.
-fn at_nine(n: Notes, p: u16) -> Notes
+pub fn at_nine(n: Notes, p: u16) -> Notes
     ensures { λ r. ⌜ r ≡ spec.atNine n p ⌝ }
 {
     Notes {
@@ -48,6 +49,22 @@ fn at_nine(n: Notes, p: u16) -> Notes
         ten: n.ten,
         parts: n.parts,
     }
+}
+
+// P7: a call at p that is refused.
+pub fn refused(m: Marks, p: u16) -> Marks
+    ensures { λ r. ⌜ ((u : List ℕ) → spec.walked r u ≡ sixAt p (spec.walked m u)) ⌝ }
+{
+    let n = m.notes;
+    with_notes(m, parts::marks::at_six(n, true, p))
+}
+
+// P12, P13: a call at p that passes a size.
+pub fn passing(m: Marks, p: u16) -> Marks
+    ensures { λ r. ⌜ ((u : List ℕ) → spec.walked r u ≡ nineAt p (spec.walked m u)) ⌝ }
+{
+    let n = m.notes;
+    with_notes(m, at_nine(n, p))
 }
 
 // One statement more, or one too many.

@@ -39,11 +39,11 @@ pub fn statement_row(kind: u8) -> u8
     13
 }
 
-// A statement with no statement inside.
+// A statement with no statement inside that does not begin with a name.
 pub fn is_plain(row: u8) -> bool
     ensures { λ r. ⌜ r ≡ isPlain row ⌝ }
 {
-    if row < 6 {
+    if row < 5 {
         return true;
     }
     if row == 9 {

@@ -1,19 +1,21 @@
 -- What a compile leaves in the lent work area and file buffer.
 -- Assumes nothing.
 use mathlib.Core.Path.{_≡_, refl, sym, ap}
-use mathlib.Core.List.{List, [], _∷_}
+use mathlib.Core.List.{List, [], _∷_, _++_}
 use mathlib.Core.Option.{Option, none, some, Option·none-ne-some, Option·some-injective}
 use Prim.Native.Nat.{ℕ, _*_, _≤_}
 use native.Mathlib.Omega.{arith}
 use lib.ListN.{length, drop, length-append, length-drop}
 use Rattle.file_law.specs.Answer.{Answer, gives, refuses}
-use Rattle.meaning.specs.Declared.{Source}
 use Rattle.meaning.specs.Names.{nameFaults}
 use Rattle.meaning.specs.Kinds.{kindFaults}
 use Rattle.meaning.specs.Jumps.{jumpFaults}
 use Rattle.meaning.specs.Sizes.{sizeFaults}
 use Rattle.meaning.specs.Worst.{worstFaults}
-use Rattle.meaning.specs.Faults.{Fault, least, earliest, faultOf}
+use Rattle.meaning.specs.Faults.{Fault, least, earliest}
+use Rattle.meaning.specs.Unexpanded.{Unexpanded}
+use Rattle.meaning.specs.Expansion.{expanded}
+use Rattle.meaning.specs.Procedures.{addedNames, addedSizes, faultIn}
 use Rattle.language.specs.Grammar.{refuses as refusesWith, Checks, four, five}
 use Rattle.language.specs.Texts.{refused, Reads, long, text, tree}
 use Rattle.language.specs.Promise.{Made, Lent, Ended, allZero, Compiles, one, two, fault, eleven, twelve, made}
@@ -33,17 +35,20 @@ told number h (p ∷ ps) next f k e =
     let same : number ≡ f .number = ap (λ (g : Fault). g .number) (Option·some-injective (record { number = number; place = least p ps }) f e) in
     (omega arith, omega arith)
 
-tree-fault : (s : Source) (f : Fault) → faultOf s ≡ some f → Told (f .number)
-unfolding faultOf
-tree-fault s f e =
+tree-fault : (w : Unexpanded) (f : Fault) → faultIn w ≡ some f → Told (f .number)
+unfolding faultIn
+tree-fault w f e =
+    let s = expanded w in
+    let names = addedNames w ++ nameFaults s in
+    let sizes = addedSizes w ++ sizeFaults s in
     let worst = earliest 10 (worstFaults s) none in
-    let size = earliest 9 (sizeFaults s) worst in
+    let size = earliest 9 sizes worst in
     let jump = earliest 8 (jumpFaults s) size in
     let kind = earliest 7 (kindFaults s) jump in
-    told 6 (omega arith, omega arith) (nameFaults s) kind f (
+    told 6 (omega arith, omega arith) names kind f (
     told 7 (omega arith, omega arith) (kindFaults s) jump f (
     told 8 (omega arith, omega arith) (jumpFaults s) size f (
-    told 9 (omega arith, omega arith) (sizeFaults s) worst f (
+    told 9 (omega arith, omega arith) sizes worst f (
     told 10 (omega arith, omega arith) (worstFaults s) none f (λ x. absurd (Option·none-ne-some f x))
     )))) e
 

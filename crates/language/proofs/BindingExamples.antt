@@ -11,7 +11,7 @@ use Rattle.ll1.specs.Values.{Makes, make, front, back, nothing, valuesOf}
 use Rattle.ll1.proofs.Tests.{has, beginRow, pick}
 use Rattle.ll1.proofs.Derived.{after-word, after-rule, by-rule, after-into, after-out, derived}
 use Rattle.language.specs.Words.{bytes, Kind, Word}
-use Rattle.language.specs.Grammar.{Part, Program, Declarations, Declaration, Inputs, MoreInputs, Ending, Booleans, MoreBooleans, BooleanStart, BooleanValue, Integers, MoreIntegers, IntegerStart, Statements, AfterStatement, NextStatement, Statement, Else, Cases, Branches, Target, Index, Tier, Further, Expression, Line, ε, _▸_, _▹_, Strength, between, before, binding, csml, tier, further, mostLevels, kinds}
+use Rattle.language.specs.Grammar.{Part, Program, Declarations, Declaration, Inputs, MoreInputs, Ending, Booleans, MoreBooleans, BooleanStart, BooleanValue, Integers, MoreIntegers, IntegerStart, Statements, AfterStatement, NextStatement, Statement, Else, Cases, Branches, Target, Index, Procedure, Formals, FormalNames, MoreFormals, AfterProcedure, AfterName, Actuals, MoreActuals, Tier, Further, Expression, Line, ε, _▸_, _▹_, Strength, between, before, binding, csml, tier, further, mostLevels, kinds}
 use Rattle.language.proofs.Texts.{wordsIn}
 use Rattle.language.proofs.Claims as claimed
 
@@ -67,6 +67,14 @@ makes Cases = ignored (csml Cases)
 makes Branches = ignored (csml Branches)
 makes Target = ignored (csml Target)
 makes Index = (λ v a. [], (λ v a. v .0 ++ (v .1 .0 ++ v .1 .1 .0), tt))
+makes Procedure = ignored (csml Procedure)
+makes Formals = ignored (csml Formals)
+makes FormalNames = ignored (csml FormalNames)
+makes MoreFormals = ignored (csml MoreFormals)
+makes AfterProcedure = ignored (csml AfterProcedure)
+makes AfterName = ignored (csml AfterName)
+makes Actuals = ignored (csml Actuals)
+makes MoreActuals = ignored (csml MoreActuals)
 makes (Tier n) = tier-makes n (getElem? binding n)
 makes (Further n) = further-makes n (getElem? binding n)
 

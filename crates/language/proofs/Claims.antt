@@ -13,7 +13,7 @@ use Rattle.ll1.proofs.Sets.{clash}
 use Rattle.ll1.proofs.Tests.{Claims, has, within, apart, emptyRow, beginRow, follows, falls, keeps, differs, allDiffer, smaller, someSmall, Passes}
 use Rattle.ll1.proofs.Forced.{Good}
 use Rattle.language.specs.Words.{Kind, name, number, the}
-use Rattle.language.specs.Grammar.{Part, Program, Declarations, Declaration, Inputs, MoreInputs, Ending, Booleans, MoreBooleans, BooleanStart, BooleanValue, Integers, MoreIntegers, IntegerStart, Statements, AfterStatement, NextStatement, Statement, Else, Cases, Branches, Target, Index, Tier, Further, Strength, between, before, binding, csml, wholeProgram}
+use Rattle.language.specs.Grammar.{Part, Program, Declarations, Declaration, Inputs, MoreInputs, Ending, Booleans, MoreBooleans, BooleanStart, BooleanValue, Integers, MoreIntegers, IntegerStart, Statements, AfterStatement, NextStatement, Statement, Else, Cases, Branches, Target, Index, Procedure, Formals, FormalNames, MoreFormals, AfterProcedure, AfterName, Actuals, MoreActuals, Tier, Further, Strength, between, before, binding, csml, wholeProgram}
 use Rattle.language.proofs.EveryPart.{every-part}
 
 -- ---- kinds are told apart
@@ -57,6 +57,10 @@ these ss = map the ss
 abbrev pub declarations : List Kind
 declarations = these ("input" ∷ "output" ∷ "internal" ∷ "integer" ∷ [])
 
+-- what a declaration or a procedure begins with
+abbrev pub declared : List Kind
+declared = the "procedure" ∷ declarations
+
 abbrev pub statements : List Kind
 statements = name ∷ these ("skip" ∷ "delay" ∷ "raise" ∷ "lower" ∷ "invert" ∷ "if" ∷ "while" ∷ "loop" ∷ "exit" ∷ "switch" ∷ "break" ∷ "parallel" ∷ [])
 
@@ -65,10 +69,10 @@ operands = name ∷ number ∷ these ("true" ∷ "false" ∷ "int" ∷ "(" ∷ [
 
 -- what a statement list ends at, and what an expression ends at
 abbrev pub listEnds : List Kind
-listEnds = these ("endprog" ∷ "else" ∷ "endif" ∷ "endloop" ∷ "case" ∷ "default" ∷ "endswitch" ∷ "||" ∷ "endparallel" ∷ [])
+listEnds = these ("endprog" ∷ "endproc" ∷ "else" ∷ "endif" ∷ "endloop" ∷ "case" ∷ "default" ∷ "endswitch" ∷ "||" ∷ "endparallel" ∷ [])
 
 abbrev pub expressionEnds : List Kind
-expressionEnds = these (";" ∷ ")" ∷ "then" ∷ "do" ∷ ":" ∷ []) ++ listEnds
+expressionEnds = these (";" ∷ ")" ∷ "," ∷ "then" ∷ "do" ∷ ":" ∷ []) ++ listEnds
 
 -- what an expression begins with, of operators that bind at n or higher
 abbrev pub begunAt : ℕ → List Strength → List Kind
@@ -99,7 +103,7 @@ heightAt (suc n) (b ∷ bs) = heightAt n bs
 unfoldable pub first : Part → List Kind
 unfolding binding
 first Program = these ("program" ∷ [])
-first Declarations = declarations
+first Declarations = declared
 first Declaration = declarations
 first Inputs = name ∷ []
 first MoreInputs = these ("," ∷ [])
@@ -120,6 +124,14 @@ first Cases = these ("case" ∷ [])
 first Branches = these ("||" ∷ [])
 first Target = name ∷ []
 first Index = these ("[" ∷ [])
+first Procedure = name ∷ []
+first Formals = these ("(" ∷ [])
+first FormalNames = name ∷ []
+first MoreFormals = these ("," ∷ [])
+first AfterProcedure = these (";" ∷ [])
+first AfterName = these (":=" ∷ "(" ∷ [])
+first Actuals = begunAt 0 binding
+first MoreActuals = these ("," ∷ [])
 first (Tier n) = begunAt n binding
 first (Further n) = betweenAt n binding
 
@@ -146,6 +158,14 @@ empty Cases = true
 empty Branches = true
 empty Target = false
 empty Index = true
+empty Procedure = false
+empty Formals = false
+empty FormalNames = true
+empty MoreFormals = true
+empty AfterProcedure = true
+empty AfterName = false
+empty Actuals = true
+empty MoreActuals = true
 empty (Tier n) = false
 empty (Further n) = true
 
@@ -174,6 +194,14 @@ follow Cases = map some (these ("default" ∷ []))
 follow Branches = map some (these ("endparallel" ∷ []))
 follow Target = map some (these (")" ∷ []))
 follow Index = map some (expressionEnds ++ betweenBelow (length binding) binding)
+follow Procedure = map some (the ";" ∷ (declared ++ statements))
+follow Formals = map some statements
+follow FormalNames = map some (these (")" ∷ []))
+follow MoreFormals = map some (these (")" ∷ []))
+follow AfterProcedure = map some (declared ++ statements)
+follow AfterName = map some (the ";" ∷ listEnds)
+follow Actuals = map some (these (")" ∷ []))
+follow MoreActuals = map some (these (")" ∷ []))
 follow (Tier n) = map some (expressionEnds ++ betweenBelow n binding)
 follow (Further n) = map some (expressionEnds ++ betweenBelow n binding)
 
@@ -202,6 +230,14 @@ rank Cases = 0
 rank Branches = 0
 rank Target = 0
 rank Index = 0
+rank Procedure = 0
+rank Formals = 0
+rank FormalNames = 0
+rank MoreFormals = 0
+rank AfterProcedure = 0
+rank AfterName = 0
+rank Actuals = suc (heightAt 0 binding)
+rank MoreActuals = 0
 rank (Tier n) = heightAt n binding
 rank (Further n) = 0
 
@@ -230,6 +266,14 @@ size Cases = 0
 size Branches = 0
 size Target = 1
 size Index = 0
+size Procedure = 2
+size Formals = 1
+size FormalNames = 0
+size MoreFormals = 0
+size AfterProcedure = 0
+size AfterName = 1
+size Actuals = 0
+size MoreActuals = 0
 size (Tier n) = suc (heightAt n binding)
 size (Further n) = 0
 

@@ -27,6 +27,10 @@ use Rattle.meaning.specs.Jumps as jumps
 use Rattle.meaning.specs.Sizes as sizes
 use Rattle.meaning.specs.Worst as worst
 use Rattle.meaning.specs.Faults as faults
+use Rattle.meaning.specs.Base as base
+use Rattle.meaning.specs.Levels as levels
+use Rattle.meaning.specs.Expansion as expansion
+use Rattle.meaning.specs.Procedures as procedures
 use Rattle.meaning.proofs.Equal as equal
 use Rattle.language.specs.Words.{bytes}
 use Rattle.language.specs.Grammar as grammar
@@ -51,6 +55,10 @@ unfolding
     declared.sameBytes declared.inputCount declared.outputCount declared.lookFrom declared.lookUp declared.initialFrom declared.initialWord
     items.items items.within items.partsOf names.gather names.among names.againFrom names.nameFaults kinds.kindFaults jumps.jumpIn
     sizes.bitsFrom sizes.sizeFaults worst.worst worst.worstFaults faults.least faults.faultOf checked.resolved checked.checked checked.programOf
+    base.baseTerm base.idle base.base levels.levelsIn levels.levelFault
+    expansion.actualOf expansion.bind expansion.formOf expansion.replaced expansion.allowsTerm expansion.allows expansion.sameCount expansion.followedBy expansion.expand expansion.called
+    expansion.wideCall expansion.wide expansion.wides expansion.outermost expansion.proceduresFrom expansion.variablesOf expansion.expandedBody expansion.expanded
+    procedures.hasName procedures.formalsAgain procedures.clashes procedures.foundIn procedures.faultIn
     numbers.value tries.allOnes tries.allZeros clock.activities clock.someAt clock.inside clock.firstJump clock.each clock.entriesOf clock.start clock.resume
     states.startState states.stepState states.outputsOf equal.decEq equal.sameEntry equal.sameEntries equal.sameState
     tables.machineOf search.numberOf search.nextNumber search.meet search.row search.rows search.find answer.listed

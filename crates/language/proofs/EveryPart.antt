@@ -7,11 +7,11 @@ use Prim.Native.Nat.{ℕ, zero, suc, _<_}
 use native.Mathlib.Omega.{arith}
 use lib.ListN.{length, getD}
 use Rattle.ll1.proofs.Sets.{and-left, and-right}
-use Rattle.language.specs.Grammar.{Part, Program, Declarations, Declaration, Inputs, MoreInputs, Ending, Booleans, MoreBooleans, BooleanStart, BooleanValue, Integers, MoreIntegers, IntegerStart, Statements, AfterStatement, NextStatement, Statement, Else, Cases, Branches, Target, Index, Tier, Further}
+use Rattle.language.specs.Grammar.{Part, Program, Declarations, Declaration, Inputs, MoreInputs, Ending, Booleans, MoreBooleans, BooleanStart, BooleanValue, Integers, MoreIntegers, IntegerStart, Statements, AfterStatement, NextStatement, Statement, Else, Cases, Branches, Target, Index, Procedure, Formals, FormalNames, MoreFormals, AfterProcedure, AfterName, Actuals, MoreActuals, Tier, Further}
 
 -- the parts, with the strengths that `binding` has
 abbrev pub allParts : List Part
-allParts = Program ∷ Declarations ∷ Declaration ∷ Inputs ∷ MoreInputs ∷ Ending ∷ Booleans ∷ MoreBooleans ∷ BooleanStart ∷ BooleanValue ∷ Integers ∷ MoreIntegers ∷ IntegerStart ∷ Statements ∷ AfterStatement ∷ NextStatement ∷ Statement ∷ Else ∷ Cases ∷ Branches ∷ Target ∷ Index ∷ Tier 0 ∷ Tier 1 ∷ Tier 2 ∷ Tier 3 ∷ Tier 4 ∷ Tier 5 ∷ Further 0 ∷ Further 1 ∷ Further 2 ∷ Further 3 ∷ Further 4 ∷ Further 5 ∷ []
+allParts = Program ∷ Declarations ∷ Declaration ∷ Inputs ∷ MoreInputs ∷ Ending ∷ Booleans ∷ MoreBooleans ∷ BooleanStart ∷ BooleanValue ∷ Integers ∷ MoreIntegers ∷ IntegerStart ∷ Statements ∷ AfterStatement ∷ NextStatement ∷ Statement ∷ Else ∷ Cases ∷ Branches ∷ Target ∷ Index ∷ Procedure ∷ Formals ∷ FormalNames ∷ MoreFormals ∷ AfterProcedure ∷ AfterName ∷ Actuals ∷ MoreActuals ∷ Tier 0 ∷ Tier 1 ∷ Tier 2 ∷ Tier 3 ∷ Tier 4 ∷ Tier 5 ∷ Further 0 ∷ Further 1 ∷ Further 2 ∷ Further 3 ∷ Further 4 ∷ Further 5 ∷ []
 
 abbrev pub all : (Part → Bool) → List Part → Bool
 all t [] = true
@@ -49,17 +49,25 @@ every-part t e f g Cases = listed t allParts e 18 (omega arith)
 every-part t e f g Branches = listed t allParts e 19 (omega arith)
 every-part t e f g Target = listed t allParts e 20 (omega arith)
 every-part t e f g Index = listed t allParts e 21 (omega arith)
-every-part t e f g (Tier zero) = listed t allParts e 22 (omega arith)
-every-part t e f g (Tier (suc zero)) = listed t allParts e 23 (omega arith)
-every-part t e f g (Tier (suc (suc zero))) = listed t allParts e 24 (omega arith)
-every-part t e f g (Tier (suc (suc (suc zero)))) = listed t allParts e 25 (omega arith)
-every-part t e f g (Tier (suc (suc (suc (suc zero))))) = listed t allParts e 26 (omega arith)
-every-part t e f g (Tier (suc (suc (suc (suc (suc zero)))))) = listed t allParts e 27 (omega arith)
+every-part t e f g Procedure = listed t allParts e 22 (omega arith)
+every-part t e f g Formals = listed t allParts e 23 (omega arith)
+every-part t e f g FormalNames = listed t allParts e 24 (omega arith)
+every-part t e f g MoreFormals = listed t allParts e 25 (omega arith)
+every-part t e f g AfterProcedure = listed t allParts e 26 (omega arith)
+every-part t e f g AfterName = listed t allParts e 27 (omega arith)
+every-part t e f g Actuals = listed t allParts e 28 (omega arith)
+every-part t e f g MoreActuals = listed t allParts e 29 (omega arith)
+every-part t e f g (Tier zero) = listed t allParts e 30 (omega arith)
+every-part t e f g (Tier (suc zero)) = listed t allParts e 31 (omega arith)
+every-part t e f g (Tier (suc (suc zero))) = listed t allParts e 32 (omega arith)
+every-part t e f g (Tier (suc (suc (suc zero)))) = listed t allParts e 33 (omega arith)
+every-part t e f g (Tier (suc (suc (suc (suc zero))))) = listed t allParts e 34 (omega arith)
+every-part t e f g (Tier (suc (suc (suc (suc (suc zero)))))) = listed t allParts e 35 (omega arith)
 every-part t e f g (Tier (suc (suc (suc (suc (suc (suc n))))))) = f n
-every-part t e f g (Further zero) = listed t allParts e 28 (omega arith)
-every-part t e f g (Further (suc zero)) = listed t allParts e 29 (omega arith)
-every-part t e f g (Further (suc (suc zero))) = listed t allParts e 30 (omega arith)
-every-part t e f g (Further (suc (suc (suc zero)))) = listed t allParts e 31 (omega arith)
-every-part t e f g (Further (suc (suc (suc (suc zero))))) = listed t allParts e 32 (omega arith)
-every-part t e f g (Further (suc (suc (suc (suc (suc zero)))))) = listed t allParts e 33 (omega arith)
+every-part t e f g (Further zero) = listed t allParts e 36 (omega arith)
+every-part t e f g (Further (suc zero)) = listed t allParts e 37 (omega arith)
+every-part t e f g (Further (suc (suc zero))) = listed t allParts e 38 (omega arith)
+every-part t e f g (Further (suc (suc (suc zero)))) = listed t allParts e 39 (omega arith)
+every-part t e f g (Further (suc (suc (suc (suc zero))))) = listed t allParts e 40 (omega arith)
+every-part t e f g (Further (suc (suc (suc (suc (suc zero)))))) = listed t allParts e 41 (omega arith)
 every-part t e f g (Further (suc (suc (suc (suc (suc (suc n))))))) = g n

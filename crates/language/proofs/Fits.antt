@@ -19,13 +19,15 @@ use Rattle.meaning.specs.Sizes.{inputPlaces, outputPlaces, sizeFaults}
 use Rattle.meaning.specs.Worst.{worstFaults}
 use Rattle.meaning.specs.Faults.{Fault, least, earliest, faultOf}
 use Rattle.meaning.specs.Checked.{programOf}
+use Rattle.meaning.proofs.Procedures.{expanded-good}
+use Rattle.language.specs.Trees.{sourceOf}
 use Rattle.language.specs.Texts.{good, Reads, fine}
 use Rattle.language.specs.Tables.{machineOf, Tabled}
 
 -- ---- no fault
 
 pub no-fault : {text : List ℕ} {s : Source} → Reads text (good s) → faultOf s ≡ none
-no-fault (fine h x d e) = e
+no-fault (fine {ws = ws} h x d e) = expanded-good (sourceOf ws d) e
 
 none-told : (number : ℕ) (places : List ℕ) (next : Option Fault) → earliest number places next ≡ none → (places ≡ []) × (next ≡ none)
 none-told number [] next e = (refl, e)

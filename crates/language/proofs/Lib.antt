@@ -30,3 +30,4 @@ pub mod Blink
 pub mod TurnedAway
 pub mod Exactly
 pub mod Samples
+pub mod Leveled

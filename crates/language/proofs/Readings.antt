@@ -13,8 +13,10 @@ use borrow.Author.Tests.{ltb-true, ltb-false}
 use Rattle.ll1.specs.Grammar.{Sentence}
 use Rattle.ll1.proofs.Parsed.{Parsed, parsed}
 use Rattle.ll1.proofs.OneValue.{one-value}
-use Rattle.meaning.specs.Declared.{Source}
-use Rattle.meaning.specs.Faults.{Fault, faultOf}
+use Rattle.meaning.specs.Unexpanded.{Unexpanded}
+use Rattle.meaning.specs.Expansion.{expanded}
+use Rattle.meaning.specs.Procedures.{faultIn}
+use Rattle.meaning.specs.Faults.{Fault}
 use Rattle.language.specs.Words.{Word, Words, words, Cut}
 use Rattle.language.specs.Words as cut
 use Rattle.language.specs.Scan.{wordsOf}
@@ -32,12 +34,12 @@ use Rattle.language.proofs.Checking.{one-outcome, same-words}
 abbrev pub ParsedWords : List Word → Type 0
 ParsedWords ws = Parsed claims csml passes mostLevels wholeProgram (kinds ws)
 
-abbrev pub faulted : Source → Option Fault → Reading
-faulted s none = good s
+abbrev pub faulted : Unexpanded → Option Fault → Reading
+faulted s none = good (expanded s)
 faulted s (some f) = refused (f .number) (f .place)
 
 abbrev pub parsedReading : List ℕ → (ws : List Word) → ParsedWords ws → Reading
-parsedReading s ws (inl d) = faulted (sourceOf ws d) (faultOf (sourceOf ws d))
+parsedReading s ws (inl d) = faulted (sourceOf ws d) (faultIn (sourceOf ws d))
 parsedReading s ws (inr x) = refused 5 (placeOf s ws (x .0))
 
 unfoldable pub wordsReading : List ℕ → Words → Reading
@@ -49,13 +51,13 @@ readingOf s = cond (ltb mostBytes (length s)) (refused 3 0) (wordsReading s (wor
 
 -- ---- it is what the text says
 
-faulted-right : (s : List ℕ) (ws : List Word) → length s ≤ mostBytes → Cut 0 s (words ws) → (d : Sentence csml mostLevels wholeProgram (kinds ws)) (o : Option Fault) → faultOf (sourceOf ws d) ≡ o
+faulted-right : (s : List ℕ) (ws : List Word) → length s ≤ mostBytes → Cut 0 s (words ws) → (d : Sentence csml mostLevels wholeProgram (kinds ws)) (o : Option Fault) → faultIn (sourceOf ws d) ≡ o
     → Reads s (faulted (sourceOf ws d) o)
 faulted-right s ws h x d none e = fine h x d e
 faulted-right s ws h x d (some f) e = tree h x d e
 
 parsed-right : (s : List ℕ) (ws : List Word) → length s ≤ mostBytes → Cut 0 s (words ws) → (p : ParsedWords ws) → Reads s (parsedReading s ws p)
-parsed-right s ws h x (inl d) = faulted-right s ws h x d (faultOf (sourceOf ws d)) refl
+parsed-right s ws h x (inl d) = faulted-right s ws h x d (faultIn (sourceOf ws d)) refl
 parsed-right s ws h x (inr y) = text h (five x (y .1))
 
 words-right : (s : List ℕ) (r : Words) → length s ≤ mostBytes → Cut 0 s r → Reads s (wordsReading s r)
@@ -86,10 +88,10 @@ not-program s ws number place c x d =
     let z : _≡_ {A = ℕ} 0 1 = cc in
     absurd (omega arith)
 
-same-fault : (s t : Source) (f g : Fault) → s ≡ t → faultOf s ≡ some f → faultOf t ≡ some g → f ≡ g
+same-fault : (s t : Unexpanded) (f g : Fault) → s ≡ t → faultIn s ≡ some f → faultIn t ≡ some g → f ≡ g
 same-fault s t f g e p q = cc
 
-no-fault : {A : Type 0} (s t : Source) (f : Fault) → s ≡ t → faultOf s ≡ some f → faultOf t ≡ none → A
+no-fault : {A : Type 0} (s t : Unexpanded) (f : Fault) → s ≡ t → faultIn s ≡ some f → faultIn t ≡ none → A
 no-fault s t f e p q = let z : _≡_ {A = ℕ} 0 1 = cc in absurd (omega arith)
 
 same-refusal : (m n p q : ℕ) → refuses m p ≡ refuses n q → refused m p ≡ refused n q
@@ -112,4 +114,4 @@ one-reads s (tree {ws = ws} {f = f} h x d e) (fine {ws = vs} k y b a) = no-fault
 one-reads s (fine h x d e) (long g) = absurd (omega arith)
 one-reads s (fine {ws = ws} h x d e) (text {number = m} {place = p} g c) = not-program s ws m p c x d
 one-reads s (fine {ws = ws} h x d e) (tree {ws = vs} {f = f} k y b a) = no-fault (sourceOf vs b) (sourceOf ws d) f (one-source vs ws b d (same-words vs ws (one-cut y x))) a e
-one-reads s (fine {ws = ws} h x d e) (fine {ws = vs} k y b a) = ap good (one-source ws vs d b (same-words ws vs (one-cut x y)))
+one-reads s (fine {ws = ws} h x d e) (fine {ws = vs} k y b a) = ap (λ (v : Unexpanded). good (expanded v)) (one-source ws vs d b (same-words ws vs (one-cut x y)))

@@ -43,6 +43,11 @@ pub record Samples : Type 0 where
   pub first-branch : Lists 256 "program p; output A; loop parallel exit || break endparallel; raise(A) endloop endprog" "machine p\ninputs -\noutputs A\nstates 2\n0 0 1\n1 0 1\n"
   -- neither inputs nor outputs
   pub dashes : Lists 256 "program p; skip endprog" "machine p\ninputs -\noutputs -\nstates 2\n0 - 1\n1 - 1\n"
+  -- a procedure's formals in their order, each call expanded where it stands; the `;` behind it may be missing
+  pub two-formals : Lists 256 "program p; output A; procedure q(a, e) if e then raise(a) endif endproc procedure r() q(A, true) endproc; r() endprog" "machine p\ninputs -\noutputs A\nstates 2\n0 0 1\n1 1 1\n"
+  -- what stands in parentheses is no name; a fault of the body is at the call
+  pub no-name : Lists 256 "program p; output A; procedure q(a) raise(a) endproc q((A)) endprog" "refused 6 at 53\n"
+  pub at-call : Lists 256 "program p; procedure q() exit endproc skip; q() endprog" "refused 8 at 44\n"
   -- the end of the text
   pub cut-short : Lists 256 "program p; skip  " "refused 5 at 17\n"
   -- 32 levels are read, and one more is not
@@ -62,6 +67,9 @@ samples =
       at-operator = lists refl;
       first-branch = lists refl;
       dashes = lists refl;
+      two-formals = lists refl;
+      no-name = lists refl;
+      at-call = lists refl;
       cut-short = lists refl;
       deep = lists refl;
       too-deep = lists refl;

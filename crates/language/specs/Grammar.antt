@@ -1,4 +1,4 @@
--- G1 to G10: the grammar with its levels, and fault 5.
+-- G1 to G10, P1 and P2: the grammar with its levels, and fault 5.
 -- A row reads from left to right: ▸ stands behind a word that is spelled, ▪ behind a name or a number, ▹ behind a part, and ε ends it; ∣ parts the rows of a part, and ∎ ends them.
 -- Assumes nothing.
 use mathlib.Core.List.{List, [], _∷_, _++_, map}
@@ -6,6 +6,7 @@ use mathlib.Core.Option.{Option, none, some}
 use Prim.Native.Nat.{ℕ, suc}
 use Prim.Native.String.{String}
 use lib.ListN.{length, getD, getElem?}
+use Rattle.meaning.specs.Levels as levels
 use Rattle.ll1.specs.Grammar.{word, part, In, Out, Row, Grammar, sentence, refused, Answers}
 use Rattle.language.specs.Words.{Kind, name, number, the, Word, words, Cut}
 use Rattle.language.specs.Words as cut
@@ -14,6 +15,7 @@ use Rattle.language.specs.Words as cut
 pub data Part : Type 0 where
   Program Declarations Declaration Inputs MoreInputs Ending Booleans MoreBooleans BooleanStart BooleanValue Integers MoreIntegers IntegerStart : Part
   Statements AfterStatement NextStatement Statement Else Cases Branches Target Index : Part
+  Procedure Formals FormalNames MoreFormals AfterProcedure AfterName Actuals MoreActuals : Part
   Tier Further : ℕ → Part
 
 -- an expression may have every operator
@@ -94,7 +96,13 @@ further n none = ε ∣ ∎
 unfoldable pub csml : Grammar Kind Part
 -- G1
 csml Program = "program" ▸ name ▪ ";" ▸ Declarations ▹ Statements ▹ "endprog" ▸ ε ∣ ∎
-csml Declarations = ε ∣ Declaration ▹ ";" ▸ Declarations ▹ ε ∣ ∎
+csml Declarations = ε ∣ Declaration ▹ ";" ▸ Declarations ▹ ε ∣ "procedure" ▸ Procedure ▹ AfterProcedure ▹ Declarations ▹ ε ∣ ∎
+-- P1
+csml Procedure = name ▪ Formals ▹ Statements ▹ "endproc" ▸ ε ∣ ∎
+csml Formals = level ("(" ▸ FormalNames ▹ ")" ▸ ε) ∣ ∎
+csml FormalNames = ε ∣ name ▪ MoreFormals ▹ ε ∣ ∎
+csml MoreFormals = ε ∣ "," ▸ name ▪ MoreFormals ▹ ε ∣ ∎
+csml AfterProcedure = ε ∣ ";" ▸ ε ∣ ∎
 -- G2, G3, G4
 csml Declaration = "input" ▸ Inputs ▹ ε ∣ "output" ▸ Booleans ▹ ε ∣ "internal" ▸ Booleans ▹ ε ∣ "integer" ▸ Integers ▹ ε ∣ ∎
 csml Inputs = name ▪ Ending ▹ MoreInputs ▹ ε ∣ ∎
@@ -118,7 +126,7 @@ csml Statement =
     ∣ "raise" ▸ level ("(" ▸ Target ▹ ")" ▸ ε)
     ∣ "lower" ▸ level ("(" ▸ Target ▹ ")" ▸ ε)
     ∣ "invert" ▸ level ("(" ▸ Target ▹ ")" ▸ ε)
-    ∣ name ▪ ":=" ▸ Expression ▹ ε
+    ∣ name ▪ AfterName ▹ ε
     ∣ level ("if" ▸ Expression ▹ "then" ▸ Statements ▹ Else ▹ "endif" ▸ ε)
     ∣ level ("while" ▸ Expression ▹ "do" ▸ "loop" ▸ Statements ▹ "endloop" ▸ ε)
     ∣ level ("loop" ▸ Statements ▹ "endloop" ▸ ε)
@@ -127,6 +135,10 @@ csml Statement =
     ∣ "break" ▸ ε
     ∣ level ("parallel" ▸ Statements ▹ "||" ▸ Statements ▹ Branches ▹ "endparallel" ▸ ε)
     ∣ ∎
+-- G6: an assignment or, P2, a call
+csml AfterName = ":=" ▸ Expression ▹ ε ∣ level ("(" ▸ Actuals ▹ ")" ▸ ε) ∣ ∎
+csml Actuals = ε ∣ Expression ▹ MoreActuals ▹ ε ∣ ∎
+csml MoreActuals = ε ∣ "," ▸ Expression ▹ MoreActuals ▹ ε ∣ ∎
 csml Else = ε ∣ "else" ▸ Statements ▹ ε ∣ ∎
 -- G6: one case or more, and the default
 csml Cases = ε ∣ "case" ▸ Expression ▹ ":" ▸ Statements ▹ Cases ▹ ε ∣ ∎
@@ -139,7 +151,7 @@ csml (Further n) = further n (getElem? binding n)
 
 -- Z9
 abbrev pub mostLevels : ℕ
-mostLevels = 32
+mostLevels = levels.mostLevels
 
 -- where reading starts
 abbrev pub wholeProgram : Line

@@ -13,3 +13,4 @@ pub mod Steps
 pub mod Turns
 pub mod Served
 pub mod Reading
+pub mod Leveled

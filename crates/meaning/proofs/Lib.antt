@@ -28,3 +28,12 @@ pub mod Fits
 pub mod Eight
 pub mod Samples
 pub mod Unasked
+pub mod Procedures
+pub mod Actuals
+pub mod Summaries
+pub mod Cut
+pub mod Passing
+pub mod Unchanged
+pub mod Depth
+pub mod Wide
+pub mod Expanding

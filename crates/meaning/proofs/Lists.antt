@@ -15,7 +15,7 @@ module _ {A : Type 0} where
   both-empty (x ∷ a) b e = absurd (not-empty e)
 
 module _ {A B : Type 0} (f : A → List B) where
-  gather-append : (a b : List A) → gather f (a ++ b) ≡ gather f a ++ gather f b
+  pub gather-append : (a b : List A) → gather f (a ++ b) ≡ gather f a ++ gather f b
   unfolding gather
   gather-append [] b = refl
   gather-append (x ∷ a) b = ap (λ l. f x ++ l) (gather-append a b) ∙ sym (append-assoc (f x) (gather f a) (gather f b))

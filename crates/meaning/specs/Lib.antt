@@ -12,3 +12,8 @@ pub mod Jumps
 pub mod Sizes
 pub mod Worst
 pub mod Faults
+pub mod Unexpanded
+pub mod Base
+pub mod Levels
+pub mod Expansion
+pub mod Procedures

@@ -6,7 +6,7 @@ use mathlib.Core.List.{List, [], _∷_, _++_, map}
 use lib.Dec.{leb, ltb}
 use lib.ListN.{drop}
 use Rattle.file_law.specs.Table.{mostInputs, mostOutputs}
-use Rattle.meaning.specs.Tree.{Name, Stmt, skip, delay, change, assign, choice, while, loop, exit, break, switch, parallel}
+use Rattle.meaning.specs.Tree.{Name, Stmt, skip, delay, change, assign, choice, while, loop, exit, break, switch, parallel, Stmts}
 use Rattle.meaning.specs.Clock.{headOf, activitiesSum}
 use Rattle.meaning.specs.States.{mostActivities}
 use Rattle.meaning.specs.Declared.{Declaration, inputs, outputs, internals, integers, Source, nameOf}
@@ -83,12 +83,26 @@ abbrev pub itemSize : Item → List ℕ
 itemSize (statement s) = stmtSize s
 itemSize (test h e) = []
 
+-- Z5
+abbrev pub statementsOver : Stmts Name → List ℕ
+statementsOver b = drop mostStatements (gather statementPlace (itemsAll b))
+
+-- Z6
+abbrev pub partsOver : Stmts Name → List ℕ
+partsOver b = drop mostParts (map placeOf (partsOf (itemsAll b)))
+
+-- Z5, Z6: what is too many of a list of statements
+abbrev pub countFaults : Stmts Name → List ℕ
+countFaults b = statementsOver b ++ partsOver b
+
+-- Z5 to Z8: all that a list of statements passes
+abbrev pub bodySizes : Stmts Name → List ℕ
+bodySizes b = statementsOver b ++ (partsOver b ++ gather itemSize (itemsAll b))
+
 unfoldable pub sizeFaults : Source → List ℕ
 sizeFaults s =
     drop mostInputs (gather inputPlaces (s .declared))
     ++ (drop mostOutputs (gather outputPlaces (s .declared))
     ++ (bitsFrom 0 (s .declared)
     ++ (gather widthFault (s .declared)
-    ++ (drop mostStatements (gather statementPlace (itemsAll (s .body)))
-    ++ (drop mostParts (map placeOf (partsOf (itemsAll (s .body))))
-    ++ gather itemSize (itemsAll (s .body)))))))
+    ++ bodySizes (s .body))))

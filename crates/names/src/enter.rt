@@ -53,7 +53,7 @@ pub fn counted(n: u8, kind: u8, this: u8) -> u8
 }
 
 // The least place, with p where there is a fault.
-fn place_if(on: bool, p: u16, old: u16) -> u16
+pub fn place_if(on: bool, p: u16, old: u16) -> u16
     ensures { λ r. ⌜ r ≡ noted on p old ⌝ }
 {
     if on {
@@ -145,7 +145,7 @@ fn start_value(v: u16, w: u16, at: u8) -> u32
 }
 
 // A name's length.
-fn length_of(a: u16, b: u16) -> u8
+pub fn length_of(a: u16, b: u16) -> u8
     ensures { λ r. ⌜ r ≡ min (b - a) 255 ⌝ }
 {
     if b <= a {
@@ -168,7 +168,7 @@ fn sizes(kind: u8, p: u16, w: u16, q: u16, m: Marks) -> u16
 }
 
 // Entry i: the place with the kind above it, the length, and the number.
-fn put_entry(t: &mut [u8], i: u16, p: u16, kind: u8, len: u8, number: u8)
+pub fn put_entry(t: &mut [u8], i: u16, p: u16, kind: u8, len: u8, number: u8)
     requires { ⌜ (i * 4 + 4 ≤ length (now t)) × (p < 8192) × (kind < 4) ⌝ }
     ensures { λ _. ⌜ now (t .exit) ≡ putEntry (now (t .entry)) i p kind len number ⌝ }
 {

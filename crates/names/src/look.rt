@@ -20,7 +20,7 @@ fn wide(x: u8) -> usize
 }
 
 // The place of the name of entry i.
-fn place_at(t: &[u8], i: usize) -> usize
+pub fn place_at(t: &[u8], i: usize) -> usize
     requires { ⌜ i * 4 + 4 ≤ length (now t) ⌝ }
     ensures { λ r. ⌜ (r ≡ placeAt (now (t .entry)) i) × (r < 8192) ⌝ }
 {

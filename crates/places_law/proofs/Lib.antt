@@ -1,3 +1,4 @@
-pub mod Words
 pub mod Trees
 pub mod Lists
+pub mod Added
+pub mod Declared

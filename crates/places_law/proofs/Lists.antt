@@ -15,8 +15,8 @@ use Rattle.meaning.specs.Kinds.{isTruth, isWhole, both, kindOf, hasBit, compara
 use Rattle.meaning.specs.Jumps.{jumpIn, jumpAll, jumpCases, jumpEach, jumpFaults}
 use Rattle.meaning.specs.Sizes.{mostStatements, mostParts, mostDelay, statementPlace, itemSize}
 use Rattle.meaning.specs.Worst.{mostSize, combined, worst, partWorst, worstFaults}
-use Rattle.stmts_law.proofs.Walks.{Every}
-use Rattle.places_law.specs.Places.{Near, Low, LowName, LowExpr, LowStmt, LowAll, LowCases, LowEach, LowItem}
+use Rattle.kept_law.specs.Kept.{Every, Near, LowName}
+use Rattle.places_law.specs.Places.{Low, LowExpr, LowStmt, LowAll, LowCases, LowEach, LowItem}
 
 -- ---- lists of places
 

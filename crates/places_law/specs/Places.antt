@@ -5,26 +5,13 @@ use mathlib.Core.List.{List, [], _∷_}
 use Prim.Native.Nat.{ℕ, _≤_}
 use Rattle.meaning.specs.Tree.{Name, Expr, literal, truth, variable, bit, not, int, arithmetic, comparison, logic, Target, whole, part, Stmt, skip, delay, change, assign, choice, while, loop, exit, break, switch, parallel, Stmts, end, _⨾_, Cases, default, case, Branches, none, _∥_}
 use Rattle.meaning.specs.Items.{Item, statement, test}
-use Rattle.language.specs.Words.{Word, number, largestNumber}
-use Rattle.language.specs.Trees.{numberAt}
-use Rattle.language.specs.Texts.{mostBytes}
+use Rattle.language.specs.Words.{largestNumber}
+use Rattle.kept_law.specs.Kept.{Near, LowName}
 
--- a place of a short text, or its end
-abbrev pub Near : ℕ → Type 0
-Near p = p ≤ mostBytes
-
--- .. and some places
+-- places of a short text, or its end
 abbrev pub Low : List ℕ → Type 0
 Low [] = Unit
 Low (p ∷ ps) = Near p × Low ps
-
--- a word of a short text
-abbrev pub LowWord : Word → Type 0
-LowWord w = Near (w .place) × (w .kind ≡ number → numberAt w ≤ largestNumber)
-
--- a name of a short text
-abbrev pub LowName : Name → Type 0
-LowName v = Near (v .place)
 
 -- an expression of one
 unfoldable pub LowExpr : Expr Name → Type 0

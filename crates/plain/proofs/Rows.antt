@@ -7,10 +7,9 @@ use Prim.Native.Nat.{ℕ}
 use lib.Dec.{eqb}
 use borrow.Author.Tests.{ne-eqb, eq-eqb}
 use Rattle.ll1.proofs.Tests.{has, beginRow, pick}
-use Rattle.meaning.specs.Tree.{Stmt}
+use Rattle.meaning.specs.Unexpanded.{Command}
 use Rattle.language.specs.Words.{Word, signs, reserved}
-use Rattle.language.specs.Grammar.{Part, AfterStatement, NextStatement, Statement, Else, Cases, Branches, Index, binding, csml}
-use Rattle.language.specs.Trees.{Name}
+use Rattle.language.specs.Grammar.{Part, AfterStatement, NextStatement, Statement, Else, Cases, Branches, Index, AfterName, binding, csml}
 use Rattle.language.proofs.Claims.{claims, first, empty, follow}
 use Rattle.words.specs.Kinds.{numbered, spellings}
 use Rattle.descent_law.specs.Told.{Told, Called}
@@ -52,6 +51,10 @@ pub index-only : Decides Index (onlyAt 16)
 unfolding has beginRow pick csml binding claims first empty follow agrees upTo numbered spellings signs reserved
 index-only = refl
 
+pub call-only : Decides AfterName (onlyAt 14)
+unfolding has beginRow pick csml binding claims first empty follow agrees upTo numbered spellings signs reserved
+call-only = refl
+
 all-next : Decides NextStatement nextRow
 unfolding has beginRow pick csml binding claims first empty follow agrees upTo numbered spellings signs reserved statementRow
 all-next = refl
@@ -71,7 +74,7 @@ module _ (s : List ℕ) (h : Here) (ws : List Word) (i : ℕ) (st : Stands s h w
   pub next-none : statementRow (h .kind) ≡ 13 → i ≡ 0
   next-none q = sym (rw q at (called-row s NextStatement nextRow all-next h ws i st p))
 
-pub row-told : (s : List ℕ) (k : ℕ) (h : Here) (ws : List Word) (f : ℕ) (v : Stmt Name) (rest : List Word) → Stands s h ws → Told f Statement k ws v rest → (e : ℕ) × StatementRow e k ws v rest (statementRow (h .kind))
+pub row-told : (s : List ℕ) (k : ℕ) (h : Here) (ws : List Word) (f : ℕ) (v : Command) (rest : List Word) → Stands s h ws → Told f Statement k ws v rest → (e : ℕ) × StatementRow e k ws v rest (statementRow (h .kind))
 row-told s k h ws f v rest st x =
     let (e, i, p, row) = statement-told f k ws v rest x in
     (e, subst (StatementRow e k ws v rest) (sym (called-row s Statement statementRow all-statements h ws i st p)) row)

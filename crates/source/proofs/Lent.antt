@@ -3,17 +3,15 @@
 use mathlib.Core.Path.{_≡_, sym, _∙_, ap, subst}
 use mathlib.Core.Bool.{Bool}
 use mathlib.Core.List.{List, [], _++_, append-nil}
-use mathlib.Core.Option.{Option}
 use Prim.Native.Nat.{ℕ, _+_, _-_, _*_, _≤_, _<_}
 use native.Mathlib.Omega.{arith}
 use native.Mathlib.Decide.{decLt}
 use lib.ListN.{length, getD, set, take, drop, length-drop, length-append, drop-of-length-le}
-use lib.Seq.{take-at, drop-at, getD-take, getD-set-same, getD-set-other, length-take-le, ext-getD}
+use lib.Seq.{take-at, drop-at, getD-take, getD-drop, getD-set-same, getD-set-other, length-take-le, ext-getD}
 use Rattle.decls.specs.declared.Read.{Read}
 use Rattle.decls.specs.Came.{Came}
 use Rattle.parts.specs.Beside.{treeBytes, beside}
 use Rattle.parts.proofs.Beside.{same-size, whole-rest}
-use Rattle.meaning.specs.Numbers.{Variable}
 use Rattle.hand.specs.declared.Here.{Here}
 use Rattle.hand.specs.Along.{Near}
 use Rattle.grammar.specs.Meaning.{Says}
@@ -22,11 +20,13 @@ use Rattle.items.specs.declared.Marks.{Marks}
 use Rattle.items.specs.declared.Read as items
 use Rattle.items.specs.Came.{All}
 use Rattle.stored.specs.Stored.{Stored}
-use Rattle.source.specs.Area.{treeOf, Listed}
+use Rattle.frames.specs.declared.Under.{Under}
+use Rattle.wides.specs.Fill.{FilledBehind}
+use Rattle.source.specs.Area.{treeOf, Listed, Prepared}
 use Rattle.source.specs.Says.{ReadDone}
 use Rattle.source.specs.declared.Told.{Told}
 use Rattle.source.specs.declared.Told.the-variants.{Good}
-use Rattle.source.proofs.Entered.{Entered, program-entered}
+use Rattle.told_law.proofs.Entered.{Entered, program-entered}
 
 -- a part from n on comes back as ys
 module _ (n : ℕ) (xs ys : List ℕ) (h : n ≤ length xs) where
@@ -47,8 +47,8 @@ module _ (n : ℕ) (xs ys : List ℕ) (h : n ≤ length xs) where
   pub back-long : length ys ≡ length (drop n xs) → length back ≡ length xs
   back-long e = ap length back-is ∙ omega (arith, length-append (take n xs) ys, length-take-le n xs h, e, length-drop n xs)
 
-  pub listed-back : {s : List ℕ} {r : Read} → Came s (take (length xs - n) (drop n xs)) ys r → Came s (drop n xs) (drop n back) r × (take n back ≡ take n xs) × (length back ≡ length xs)
-  listed-back {s} {r} c = let whole : Came s (drop n xs) ys r = rw (whole-rest n xs) at c in (rw back-rest whole, back-front, back-long (whole .long))
+  pub listed-back : {s : List ℕ} {r : Read} → Came s (take (length xs - n) (drop n xs)) ys r → Listed n s xs back r
+  listed-back {s} {r} c = let whole : Came s (drop n xs) ys r = rw (whole-rest n xs) at c in record { came = rw back-rest whole; front = back-front; long = back-long (whole .long) }
 
 pub tree-at : (t : List ℕ) (q : ℕ) → q < treeBytes → getD (treeOf t) q 0 ≡ getD t q 0
 unfolding treeOf
@@ -58,20 +58,37 @@ names-long : (t : List ℕ) → length (beside t .names) ≡ length t - treeByte
 unfolding beside
 names-long t = length-drop treeBytes t
 
-pub area-entered : {s t u : List ℕ} {r : Read} → 32768 ≤ length t → Says s Grammatical → Listed s t u r → Entered s (beside t .names) (beside u .names) r
-area-entered {s} {t} {u} {r} room says x = program-entered (omega (arith, names-long t)) says (x .came)
+name-at : (t : List ℕ) (j : ℕ) → getD (beside t .names) j 0 ≡ getD t (treeBytes + j) 0
+unfolding beside
+name-at t j = getD-drop treeBytes t j 0
+
+-- the area cleared, the names listed, the activities filled in
+pub prepared : {s t a b u : List ℕ} {r : Read} → 32768 ≤ length t → length a ≡ length t → ((i : ℕ) → i < 32768 → getD a i 0 ≡ 0) → Listed treeBytes s a b r
+    → FilledBehind s b u (r .procedures) → Prepared s t u r
+unfolding treeOf beside
+prepared {s} {t} {a} {b} {u} {r} room same zeros x y =
+    record {
+      before = beside a .names;
+      listed = beside b .names;
+      room = omega (arith, names-long a, room, same);
+      clear = λ j h. name-at a j ∙ zeros (treeBytes + j) (omega (arith, h));
+      came = x .came;
+      fills = y .rows .fills;
+      filled = y .rows .filled;
+      zeros = λ q h. sym (tree-at u q (omega (arith, h))) ∙ ap (λ (l : List ℕ). getD l q 0) (y .tree ∙ x .front) ∙ tree-at a q (omega (arith, h)) ∙ zeros q (omega (arith, h));
+      long = y .long ∙ x .long ∙ same;
+    }
+
+pub area-entered : {s t u : List ℕ} {r : Read} → Says s Grammatical → (x : Prepared s t u r) → Entered s (x .before) (x .listed) r
+area-entered says x = program-entered (x .room) says (x .came)
 
 -- the number of bytes stays
-pub all-long : {look : List ℕ → Option Variable} {s : List ℕ} {k : ℕ} {l b : Bool} {h : Here} {m : Marks} {t u : List ℕ} {r : items.Read} → All look s k l b h m t u r → length u ≡ length t
+pub all-long : {s z : List ℕ} {count : ℕ} {under : Under} {k : ℕ} {l b : Bool} {h : Here} {m : Marks} {t u : List ℕ} {r : items.Read} → All s z count under k l b h m t u r → length u ≡ length t
 unfolding beside
 all-long x = same-size (x .on .kept)
 
--- the tree's nodes are still zero
-pub still-zero : {s t u : List ℕ} {r : Read} → Listed s t u r → ((q : ℕ) → q < 8192 → getD t q 0 ≡ 0) → (q : ℕ) → q < 8192 → getD u q 0 ≡ 0
-still-zero {s} {t} {u} x zeros q h = sym (tree-at u q (omega arith)) ∙ ap (λ (l : List ℕ). getD l q 0) (x .tree) ∙ tree-at t q (omega arith) ∙ zeros q h
-
 -- the declared names fit behind the tree
-pub names-fit : {s t u : List ℕ} {r : Read} → 32768 ≤ length t → Listed s t u r → Near s (r .word) × (16384 + r .marks .names * 4 ≤ length u)
+pub names-fit : {s t u : List ℕ} {r : Read} → 32768 ≤ length t → (x : Prepared s t u r) → Near s (r .word) × (16384 + r .marks .names * 4 ≤ length u)
 names-fit room x = (x .came .near, omega (arith, room, x .came .few, x .long))
 
 -- ---- loops over the bytes

@@ -2,9 +2,14 @@
 ghost use mathlib.Core.Path.{_≡_};
 ghost use Prim.Native.Nat.{_≤_};
 ghost use lib.ListN.{length};
-ghost use Rattle.source.specs.Settled.{settledBy, faultIn};
+ghost use Rattle.own_law.specs.Noted.{tellBy};
+ghost use Rattle.frames_law.specs.Frames.{noPlace};
+ghost use Rattle.told_law.proofs.Whole.{own as ownText};
+ghost use Rattle.source.specs.Settled.{faultIn};
 ghost use Rattle.source.specs.Area.{treeOf};
 ghost use Rattle.source.specs.Says.{Says, ReadDone};
+use decls::Read;
+use frames::Under;
 use grammar::Checked;
 use parts::marks;
 
@@ -32,7 +37,7 @@ pub enum Told {
 
 // The fault that is told, by the least place of each, 65,535 where there is none.
 fn settle(six: u16, seven: u16, eight: u16, nine: u16, ten: u16) -> Answer
-    ensures { λ r. ⌜ faultIn r ≡ settledBy six seven eight nine ten ⌝ }
+    ensures { λ r. ⌜ faultIn r ≡ tellBy noPlace six seven eight nine ten ⌝ }
 {
     if six < 65535 {
         return Answer::Refused {
@@ -67,6 +72,21 @@ fn settle(six: u16, seven: u16, eight: u16, nine: u16, ten: u16) -> Answer
     Answer::Good
 }
 
+// No call is open: every procedure can be called, and frames are written behind the names.
+fn own(d: Read) -> Under
+    requires { ⌜ d .marks .names ≤ 4096 ⌝ }
+    ensures { λ r. ⌜ r ≡ ownText d ⌝ }
+{
+    let m = d.marks;
+    Under {
+        at: 65535,
+        frame: 0,
+        depth: 0,
+        seen: d.procedures,
+        top: m.names * 4 + 4,
+    }
+}
+
 // Reads a text: its tree lies in the first 16,384 bytes of the area, and the names that it declares in the 16,384 behind them.
 pub fn read(s: &[u8], work: &mut [u8]) -> Told
     requires { ⌜ 32768 ≤ length (now work) ⌝ }
@@ -75,10 +95,9 @@ pub fn read(s: &[u8], work: &mut [u8]) -> Told
     match grammar::check(s) {
         Checked::Refused { number, place } => return Told::Fault { number, place },
         Checked::Grammatical => {
-            area::clear(work);
-            let d = area::names(s, work);
+            let d = area::prepare(s, work);
             let m = d.marks;
-            let b = stmts::body(s, m.names, work, d.word);
+            let b = stmts::body(s, m.names, work, own(d), d.word);
             let k = b.marks;
             let n = k.notes;
             let six = marks::least(m.six, n.six);

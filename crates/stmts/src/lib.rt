@@ -2,11 +2,11 @@
 ghost use mathlib.Core.Bool.{Bool, true, false};
 ghost use Prim.Native.Nat.{_+_, _*_, _≤_, _<_};
 ghost use lib.ListN.{length};
-ghost use Rattle.names.specs.Look.{lookIn};
 ghost use Rattle.parts.specs.Beside.{beside};
 ghost use Rattle.hand.specs.Along.{Near};
 ghost use Rattle.items.specs.Walk.{startMarks};
-ghost use Rattle.items.specs.Came.{Ready, RowCame, One, All, CaseCame, CasesCame, BranchCame, BranchesCame};
+ghost use Rattle.items.specs.Came.{Ready, RowCame, CallCame, OutermostCame, One, All, CaseCame, CasesCame, BranchCame, BranchesCame};
+use frames::Under;
 use hand::Here;
 use items::Marks;
 use items::Read;
@@ -16,6 +16,7 @@ fn stmt(
     s: &[u8],
     count: u16,
     t: &mut [u8],
+    u: Under,
     first: Here,
     marks: Marks,
     lp: bool,
@@ -23,28 +24,107 @@ fn stmt(
     levels: u8,
 ) -> Read
     requires { ⌜ Ready (now s) (beside (now t)) count levels first ⌝ }
-    ensures { λ r. ⌜ One (lookIn (now (s .entry)) (beside (now (t .entry)) .names) count) (now (s .entry)) levels lp br first marks (now (t .entry)) (now (t .exit)) r ⌝ }
+    ensures { λ r. ⌜ One (now (s .entry)) (beside (now (t .entry)) .names) count u levels lp br first marks (now (t .entry)) (now (t .exit)) r ⌝ }
 {
     let row = items::rows::statement_row(first.kind);
     if items::rows::is_plain(row) {
-        return plain::plain(s, count, t, row, first, marks, lp, br, levels);
+        return plain::plain(s, count, t, u, row, first, marks, lp, br, levels);
+    }
+    if row == 5 {
+        return named(s, count, t, u, first, marks, lp, br, levels);
     }
     if levels == 0 {
         return items::made(first, marks);
     }
     if row == 7 {
-        return while_loop(s, count, t, first, marks, br, levels);
+        return while_loop(s, count, t, u, first, marks, br, levels);
     }
     if row == 8 {
-        return loop_always(s, count, t, first, marks, br, levels);
+        return loop_always(s, count, t, u, first, marks, br, levels);
     }
     if row == 10 {
-        return switch(s, count, t, first, marks, lp, levels);
+        return switch(s, count, t, u, first, marks, lp, levels);
     }
     if row == 12 {
-        return parallel(s, count, t, first, marks, lp, levels);
+        return parallel(s, count, t, u, first, marks, lp, levels);
     }
-    choice(s, count, t, first, marks, lp, br, levels)
+    choice(s, count, t, u, first, marks, lp, br, levels)
+}
+
+// A statement that begins with a name: an assignment, or a call.
+fn named(
+    s: &[u8],
+    count: u16,
+    t: &mut [u8],
+    u: Under,
+    first: Here,
+    marks: Marks,
+    lp: bool,
+    br: bool,
+    levels: u8,
+) -> Read
+    requires { ⌜ Ready (now s) (beside (now t)) count levels first ⌝ }
+    ensures { λ r. ⌜ RowCame (now (s .entry)) (beside (now (t .entry)) .names) count u levels lp br 5 first marks (now (t .entry)) (now (t .exit)) r ⌝ }
+{
+    let second = hand::word_from(s, first.next);
+    if second.kind != 14 {
+        return plain::assign(s, count, t, u, first, second, marks, levels);
+    }
+    if u.at < 65535 {
+        return call(s, count, t, u, first, marks, lp, br, levels);
+    }
+    outermost(s, count, t, u, first, marks, lp, br, levels)
+}
+
+// A call: what it stands for is read in its place; its frame is made zero again.
+fn call(
+    s: &[u8],
+    count: u16,
+    t: &mut [u8],
+    u: Under,
+    first: Here,
+    marks: Marks,
+    lp: bool,
+    br: bool,
+    levels: u8,
+) -> Read
+    requires { ⌜ Ready (now s) (beside (now t)) count levels first ⌝ }
+    ensures { λ r. ⌜ CallCame (now (s .entry)) (beside (now (t .entry)) .names) count u lp br first marks (now (t .entry)) (now (t .exit)) r ⌝ }
+{
+    let e = calls::enter(s, t, u, first);
+    if e.ok {
+        let r = list(s, count, t, e.under, e.body, marks, lp, br, 32);
+        frames::put::clear(t, u.top, e.under.top);
+        return items::made(e.word, r.marks);
+    }
+    plain::stays::refused(t, e.word, marks, u.at)
+}
+
+// A call in the program's own text: read if it passes no size by itself (P13); the levels that it opens are told at its place.
+fn outermost(
+    s: &[u8],
+    count: u16,
+    t: &mut [u8],
+    u: Under,
+    first: Here,
+    marks: Marks,
+    lp: bool,
+    br: bool,
+    levels: u8,
+) -> Read
+    requires { ⌜ Ready (now s) (beside (now t)) count levels first ⌝ }
+    ensures { λ r. ⌜ OutermostCame (now (s .entry)) (beside (now (t .entry)) .names) count u levels lp br first marks (now (t .entry)) (now (t .exit)) r ⌝ }
+{
+    let v = items::inside(u, first.place);
+    let k = gauge::measure(s, t, v, 32 - levels, first);
+    if k.over {
+        return plain::stays::passing(t, k.word, marks, v.at, k.acts);
+    }
+    let r = call(s, count, t, v, first, marks, lp, br, levels);
+    if k.deep {
+        return items::made(k.word, items::noted::passing(r.marks, v.at));
+    }
+    r
 }
 
 // `loop`: its statements stand in a loop.
@@ -52,23 +132,21 @@ fn loop_always(
     s: &[u8],
     count: u16,
     t: &mut [u8],
+    u: Under,
     first: Here,
     marks: Marks,
     br: bool,
     levels: u8,
 ) -> Read
     requires { ⌜ (0 < levels) × Ready (now s) (beside (now t)) count levels first ⌝ }
-    ensures { λ r. ⌜ ((l : Bool) → RowCame (lookIn (now (s .entry)) (beside (now (t .entry)) .names) count) (now (s .entry)) levels l br 8 first marks (now (t .entry)) (now (t .exit)) r) ⌝ }
+    ensures { λ r. ⌜ ((l : Bool) → RowCame (now (s .entry)) (beside (now (t .entry)) .names) count u levels l br 8 first marks (now (t .entry)) (now (t .exit)) r) ⌝ }
 {
-    let i = marks.nodes;
-    let p = first.place;
+    let p = items::told(u, first.place);
     let m = items::noted::begun(marks, p);
     let second = hand::word_from(s, first.next);
-    let a = list(s, count, t, second, m, true, br, levels - 1);
-    let v = a.word;
-    let k = a.marks;
-    let next = hand::word_from(s, v.next);
-    written::finish(t, i, 8, p, next, k, 0, 0, 0, 0)
+    let a = list(s, count, t, u, second, m, true, br, levels - 1);
+    let next = hand::word_from(s, a.word.next);
+    written::finish(t, marks.nodes, 8, p, next, a.marks, 0, 0, 0, 0)
 }
 
 // `while`: its statements stand in a loop.
@@ -76,28 +154,25 @@ fn while_loop(
     s: &[u8],
     count: u16,
     t: &mut [u8],
+    u: Under,
     first: Here,
     marks: Marks,
     br: bool,
     levels: u8,
 ) -> Read
     requires { ⌜ (0 < levels) × Ready (now s) (beside (now t)) count levels first ⌝ }
-    ensures { λ r. ⌜ ((l : Bool) → RowCame (lookIn (now (s .entry)) (beside (now (t .entry)) .names) count) (now (s .entry)) levels l br 7 first marks (now (t .entry)) (now (t .exit)) r) ⌝ }
+    ensures { λ r. ⌜ ((l : Bool) → RowCame (now (s .entry)) (beside (now (t .entry)) .names) count u levels l br 7 first marks (now (t .entry)) (now (t .exit)) r) ⌝ }
 {
     let i = marks.nodes;
-    let p = first.place;
+    let p = items::told(u, first.place);
     let m = items::noted::begun(marks, p);
     let second = hand::word_from(s, first.next);
     let below = levels - 1;
-    let g = plain::test(s, count, t, second, m, p, below);
-    let w = g.word;
-    let k = g.marks;
-    let body = hand::word_from(s, w.next);
-    let a = list(s, count, t, body, k, true, br, below);
-    let v = a.word;
-    let j = a.marks;
-    let next = hand::word_from(s, v.next);
-    written::finish(t, i, 7, p, next, j, g.root, 0, g.looks as u16, 0)
+    let g = plain::test(s, count, t, u, second, m, p, below);
+    let body = hand::word_from(s, g.word.next);
+    let a = list(s, count, t, u, body, g.marks, true, br, below);
+    let next = hand::word_from(s, a.word.next);
+    written::finish(t, i, 7, p, next, a.marks, g.root, 0, g.looks as u16, 0)
 }
 
 // `if`, with or without `else`.
@@ -105,6 +180,7 @@ fn choice(
     s: &[u8],
     count: u16,
     t: &mut [u8],
+    u: Under,
     first: Here,
     marks: Marks,
     lp: bool,
@@ -112,28 +188,23 @@ fn choice(
     levels: u8,
 ) -> Read
     requires { ⌜ (0 < levels) × Ready (now s) (beside (now t)) count levels first ⌝ }
-    ensures { λ r. ⌜ RowCame (lookIn (now (s .entry)) (beside (now (t .entry)) .names) count) (now (s .entry)) levels lp br 6 first marks (now (t .entry)) (now (t .exit)) r ⌝ }
+    ensures { λ r. ⌜ RowCame (now (s .entry)) (beside (now (t .entry)) .names) count u levels lp br 6 first marks (now (t .entry)) (now (t .exit)) r ⌝ }
 {
     let i = marks.nodes;
-    let p = first.place;
+    let p = items::told(u, first.place);
     let m = items::noted::begun(marks, p);
     let second = hand::word_from(s, first.next);
     let below = levels - 1;
-    let g = plain::test(s, count, t, second, m, p, below);
-    let w = g.word;
-    let k = g.marks;
-    let a = list(s, count, t, w, k, lp, br, below);
-    let v = a.word;
-    let j = a.marks;
-    let next = hand::word_from(s, v.next);
-    if v.kind != 42 {
-        return written::finish(t, i, 6, p, next, j, g.root, j.nodes, g.looks as u16, 0);
+    let g = plain::test(s, count, t, u, second, m, p, below);
+    let a = list(s, count, t, u, g.word, g.marks, lp, br, below);
+    let j = a.marks.nodes;
+    let next = hand::word_from(s, a.word.next);
+    if a.word.kind != 42 {
+        return written::finish(t, i, 6, p, next, a.marks, g.root, j, g.looks as u16, 0);
     }
-    let b = list(s, count, t, next, j, lp, br, below);
-    let x = b.word;
-    let q = b.marks;
-    let end = hand::word_from(s, x.next);
-    written::finish(t, i, 6, p, end, q, g.root, j.nodes, g.looks as u16, 0)
+    let b = list(s, count, t, u, next, a.marks, lp, br, below);
+    let end = hand::word_from(s, b.word.next);
+    written::finish(t, i, 6, p, end, b.marks, g.root, j, g.looks as u16, 0)
 }
 
 // `switch`: a case, the cases behind it, and the default.
@@ -141,32 +212,26 @@ fn switch(
     s: &[u8],
     count: u16,
     t: &mut [u8],
+    u: Under,
     first: Here,
     marks: Marks,
     lp: bool,
     levels: u8,
 ) -> Read
     requires { ⌜ (0 < levels) × Ready (now s) (beside (now t)) count levels first ⌝ }
-    ensures { λ r. ⌜ ((b : Bool) → RowCame (lookIn (now (s .entry)) (beside (now (t .entry)) .names) count) (now (s .entry)) levels lp b 10 first marks (now (t .entry)) (now (t .exit)) r) ⌝ }
+    ensures { λ r. ⌜ ((b : Bool) → RowCame (now (s .entry)) (beside (now (t .entry)) .names) count u levels lp b 10 first marks (now (t .entry)) (now (t .exit)) r) ⌝ }
 {
-    let i = marks.nodes;
-    let p = first.place;
+    let p = items::told(u, first.place);
     let m = items::noted::begun(marks, p);
     let second = hand::word_from(s, first.next);
     let below = levels - 1;
-    let a = one_case(s, count, t, second, m, lp, below);
-    let v = a.word;
-    let k = a.marks;
-    let c = cases(s, count, t, v, k, lp, below);
-    let w = c.word;
-    let j = c.marks;
-    let colon = hand::word_from(s, w.next);
+    let a = one_case(s, count, t, u, second, m, lp, below);
+    let c = cases(s, count, t, u, a.word, a.marks, lp, below);
+    let colon = hand::word_from(s, c.word.next);
     let last = hand::word_from(s, colon.next);
-    let z = list(s, count, t, last, j, lp, true, below);
-    let x = z.word;
-    let q = z.marks;
-    let next = hand::word_from(s, x.next);
-    written::finish(t, i, 11, p, next, q, 0, 0, 0, 0)
+    let z = list(s, count, t, u, last, c.marks, lp, true, below);
+    let next = hand::word_from(s, z.word.next);
+    written::finish(t, marks.nodes, 11, p, next, z.marks, 0, 0, 0, 0)
 }
 
 // `parallel`: two branches, and those behind them.
@@ -174,33 +239,27 @@ fn parallel(
     s: &[u8],
     count: u16,
     t: &mut [u8],
+    u: Under,
     first: Here,
     marks: Marks,
     lp: bool,
     levels: u8,
 ) -> Read
     requires { ⌜ (0 < levels) × Ready (now s) (beside (now t)) count levels first ⌝ }
-    ensures { λ r. ⌜ ((b : Bool) → RowCame (lookIn (now (s .entry)) (beside (now (t .entry)) .names) count) (now (s .entry)) levels lp b 12 first marks (now (t .entry)) (now (t .exit)) r) ⌝ }
+    ensures { λ r. ⌜ ((b : Bool) → RowCame (now (s .entry)) (beside (now (t .entry)) .names) count u levels lp b 12 first marks (now (t .entry)) (now (t .exit)) r) ⌝ }
 {
-    let i = marks.nodes;
-    let p = first.place;
+    let p = items::told(u, first.place);
     let m = items::noted::begun(marks, p);
     let second = hand::word_from(s, first.next);
     let below = levels - 1;
     let o = items::noted::with_acts(m, 0);
-    let a = branch(s, count, t, second, o, lp, below);
-    let v = a.word;
-    let k = a.marks;
-    let other = hand::word_from(s, v.next);
-    let b = branch(s, count, t, other, k, lp, below);
-    let w = b.word;
-    let j = b.marks;
-    let c = branches(s, count, t, w, j, lp, below);
-    let x = c.word;
-    let q = c.marks;
-    let next = hand::word_from(s, x.next);
-    let n = items::noted::together(q, marks.acts, p);
-    written::finish(t, i, 12, p, next, n, 0, 0, 0, 0)
+    let a = branch(s, count, t, u, second, o, lp, below);
+    let other = hand::word_from(s, a.word.next);
+    let b = branch(s, count, t, u, other, a.marks, lp, below);
+    let c = branches(s, count, t, u, b.word, b.marks, lp, below);
+    let next = hand::word_from(s, c.word.next);
+    let n = items::noted::together(c.marks, marks.acts, p);
+    written::finish(t, marks.nodes, 12, p, next, n, 0, 0, 0, 0)
 }
 
 // A list of statements.
@@ -208,6 +267,7 @@ pub fn list(
     s: &[u8],
     count: u16,
     t: &mut [u8],
+    u: Under,
     first: Here,
     marks: Marks,
     lp: bool,
@@ -215,20 +275,18 @@ pub fn list(
     levels: u8,
 ) -> Read
     requires { ⌜ Ready (now s) (beside (now t)) count levels first ⌝ }
-    ensures { λ r. ⌜ All (lookIn (now (s .entry)) (beside (now (t .entry)) .names) count) (now (s .entry)) levels lp br first marks (now (t .entry)) (now (t .exit)) r ⌝ }
+    ensures { λ r. ⌜ All (now (s .entry)) (beside (now (t .entry)) .names) count u levels lp br first marks (now (t .entry)) (now (t .exit)) r ⌝ }
 {
-    let mut at = stmt(s, count, t, first, marks, lp, br, levels);
+    let mut at = stmt(s, count, t, u, first, marks, lp, br, levels);
     loop {
-        let w = at.word;
-        let k = at.marks;
-        if w.kind != 12 {
+        if at.word.kind != 12 {
             return at;
         }
-        let v = hand::word_from(s, w.next);
+        let v = hand::word_from(s, at.word.next);
         if items::rows::statement_row(v.kind) == 13 {
-            return items::made(v, k);
+            return items::made(v, at.marks);
         }
-        at = stmt(s, count, t, v, k, lp, br, levels);
+        at = stmt(s, count, t, u, v, at.marks, lp, br, levels);
     }
 }
 
@@ -237,25 +295,23 @@ fn one_case(
     s: &[u8],
     count: u16,
     t: &mut [u8],
+    u: Under,
     first: Here,
     marks: Marks,
     lp: bool,
     levels: u8,
 ) -> Read
     requires { ⌜ Ready (now s) (beside (now t)) count levels first ⌝ }
-    ensures { λ r. ⌜ CaseCame (lookIn (now (s .entry)) (beside (now (t .entry)) .names) count) (now (s .entry)) levels lp true first marks (now (t .entry)) (now (t .exit)) r ⌝ }
+    ensures { λ r. ⌜ CaseCame (now (s .entry)) (beside (now (t .entry)) .names) count u levels lp true first marks (now (t .entry)) (now (t .exit)) r ⌝ }
 {
     let i = marks.nodes;
-    let p = first.place;
+    let p = items::told(u, first.place);
     let m = items::noted::cased(marks);
     let second = hand::word_from(s, first.next);
-    let g = plain::test(s, count, t, second, m, p, levels);
-    let w = g.word;
-    let k = g.marks;
-    let a = list(s, count, t, w, k, lp, true, levels);
-    let v = a.word;
-    let j = a.marks;
-    written::finish(t, i, 13, p, v, j, g.root, j.nodes, g.looks as u16, 0)
+    let g = plain::test(s, count, t, u, second, m, p, levels);
+    let a = list(s, count, t, u, g.word, g.marks, lp, true, levels);
+    let j = a.marks.nodes;
+    written::finish(t, i, 13, p, a.word, a.marks, g.root, j, g.looks as u16, 0)
 }
 
 // Cases, as long as there are any.
@@ -263,22 +319,21 @@ fn cases(
     s: &[u8],
     count: u16,
     t: &mut [u8],
+    u: Under,
     first: Here,
     marks: Marks,
     lp: bool,
     levels: u8,
 ) -> Read
     requires { ⌜ Ready (now s) (beside (now t)) count levels first ⌝ }
-    ensures { λ r. ⌜ CasesCame (lookIn (now (s .entry)) (beside (now (t .entry)) .names) count) (now (s .entry)) levels lp true first marks (now (t .entry)) (now (t .exit)) r ⌝ }
+    ensures { λ r. ⌜ CasesCame (now (s .entry)) (beside (now (t .entry)) .names) count u levels lp true first marks (now (t .entry)) (now (t .exit)) r ⌝ }
 {
     let mut at = items::made(first, marks);
     loop {
-        let w = at.word;
-        let k = at.marks;
-        if w.kind != 50 {
+        if at.word.kind != 50 {
             return at;
         }
-        at = one_case(s, count, t, w, k, lp, levels);
+        at = one_case(s, count, t, u, at.word, at.marks, lp, levels);
     }
 }
 
@@ -287,16 +342,17 @@ fn branch(
     s: &[u8],
     count: u16,
     t: &mut [u8],
+    u: Under,
     first: Here,
     marks: Marks,
     lp: bool,
     levels: u8,
 ) -> Read
     requires { ⌜ Ready (now s) (beside (now t)) count levels first ⌝ }
-    ensures { λ r. ⌜ BranchCame (lookIn (now (s .entry)) (beside (now (t .entry)) .names) count) (now (s .entry)) levels lp first marks (now (t .entry)) (now (t .exit)) r ⌝ }
+    ensures { λ r. ⌜ BranchCame (now (s .entry)) (beside (now (t .entry)) .names) count u levels lp first marks (now (t .entry)) (now (t .exit)) r ⌝ }
 {
     let m = items::noted::with_acts(marks, 1);
-    let a = list(s, count, t, first, m, lp, true, levels);
+    let a = list(s, count, t, u, first, m, lp, true, levels);
     written::branched(t, marks, a)
 }
 
@@ -305,30 +361,39 @@ fn branches(
     s: &[u8],
     count: u16,
     t: &mut [u8],
+    u: Under,
     first: Here,
     marks: Marks,
     lp: bool,
     levels: u8,
 ) -> Read
     requires { ⌜ Ready (now s) (beside (now t)) count levels first ⌝ }
-    ensures { λ r. ⌜ BranchesCame (lookIn (now (s .entry)) (beside (now (t .entry)) .names) count) (now (s .entry)) levels lp first marks (now (t .entry)) (now (t .exit)) r ⌝ }
+    ensures { λ r. ⌜ BranchesCame (now (s .entry)) (beside (now (t .entry)) .names) count u levels lp first marks (now (t .entry)) (now (t .exit)) r ⌝ }
 {
     let mut at = items::made(first, marks);
     loop {
-        let w = at.word;
-        let k = at.marks;
-        if w.kind != 2 {
+        if at.word.kind != 2 {
             return at;
         }
-        let v = hand::word_from(s, w.next);
-        at = branch(s, count, t, v, k, lp, levels);
+        let v = hand::word_from(s, at.word.next);
+        at = branch(s, count, t, u, v, at.marks, lp, levels);
     }
 }
 
 // The statements of a program, which stand in no loop, switch or parallel, with 32 levels.
-pub fn body(s: &[u8], count: u16, t: &mut [u8], first: Here) -> Read
+pub fn body(s: &[u8], count: u16, t: &mut [u8], u: Under, first: Here) -> Read
     requires { ⌜ Near (now s) first × (16384 + count * 4 ≤ length (now t)) ⌝ }
-    ensures { λ r. ⌜ All (lookIn (now (s .entry)) (beside (now (t .entry)) .names) count) (now (s .entry)) 32 false false first startMarks (now (t .entry)) (now (t .exit)) r ⌝ }
+    ensures { λ r. ⌜ All (now (s .entry)) (beside (now (t .entry)) .names) count u 32 false false first startMarks (now (t .entry)) (now (t .exit)) r ⌝ }
 {
-    list(s, count, t, first, items::noted::start(), false, false, 32)
+    list(
+        s,
+        count,
+        t,
+        u,
+        first,
+        items::noted::start(),
+        false,
+        false,
+        32,
+    )
 }

@@ -24,7 +24,8 @@ use Rattle.items.specs.Walk.{Walked, walked, testAt, tested, begun, begunAt, wi
 use Rattle.expr_law.proofs.Least.{least-when, gather-append}
 use Rattle.expr_law.proofs.Noted.{six-is, seven-is, truth-is, whole-is, around-seven}
 use Rattle.expr_law.proofs.Sizes.{Small, ten-is}
-use Rattle.stmts_law.proofs.Walks.{Every, Steps, regroup, all-is}
+use Rattle.kept_law.specs.Kept.{Every}
+use Rattle.stmts_law.proofs.Walks.{Steps, regroup, all-is}
 
 -- ---- notes that do not move
 

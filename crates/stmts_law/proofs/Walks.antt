@@ -11,6 +11,7 @@ use Rattle.meaning.specs.Items.{Item, statement, test, items, itemsAll, itemsCa
 use Rattle.meaning.specs.Names.{gather}
 use Rattle.meaning.specs.Faults.{least}
 use Rattle.language.specs.Trees.{Name}
+use Rattle.kept_law.specs.Kept.{Every}
 use Rattle.items.specs.declared.Marks.{Marks}
 use Rattle.items.specs.Walk.{Walked, walked, testAt, begunAt, begun, withActs, cased, together, finished, branched, walk, walkAll, walkCases, walkEach}
 use Rattle.expr_law.proofs.Least.{least-append, least-min, gather-append}
@@ -33,10 +34,6 @@ regroup f g (x ∷ is) n =
     ∙ sym (least-append n (f x ++ gather f is) (g x ++ gather g is) ∙ ap (λ (m : ℕ). least m (g x ++ gather g is)) (least-append n (f x) (gather f is)) ∙ least-append (least (least n (f x)) (gather f is)) (g x) (gather g is))
 
 -- ---- conditions
-
-abbrev pub Every : {A : Type 0} → (A → Type 0) → List A → Type 0
-Every P [] = Unit
-Every P (x ∷ l) = P x × Every P l
 
 pub every-left : {A : Type 0} (P : A → Type 0) (a b : List A) → Every P (a ++ b) → Every P a
 every-left P [] b e = tt

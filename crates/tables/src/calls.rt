@@ -1,12 +1,12 @@
 // Which word calls for which row of a part, in the order of the cells. Made by tools/tables.py; what is laid out of it is proved to be the definition's.
 
 // How many cells the table of starts has, and how many of them are not 0.
-pub const CELLS: usize = 4352;
+pub const CELLS: usize = 5376;
 
-pub const COUNT: usize = 285;
+pub const COUNT: usize = 337;
 
 // 128 times the number of the part, plus the kind of the word.
-pub const CALLED: [u16; 285] = [
+pub const CALLED: [u16; 337] = [
     27, // Program: program
     129, // Declarations: name
     157, // Declarations: input
@@ -25,277 +25,329 @@ pub const CALLED: [u16; 285] = [
     178, // Declarations: switch
     182, // Declarations: break
     183, // Declarations: parallel
-    285, // Declaration: input
-    286, // Declaration: output
-    287, // Declaration: internal
-    288, // Declaration: integer
-    385, // Inputs: name
-    525, // MoreInputs: ;
-    526, // MoreInputs: ,
-    648, // Ending: =
-    651, // Ending: .H
-    652, // Ending: .L
-    653, // Ending: ;
-    654, // Ending: ,
-    769, // Booleans: name
-    909, // MoreBooleans: ;
-    910, // MoreBooleans: ,
-    1032, // BooleanStart: =
-    1037, // BooleanStart: ;
-    1038, // BooleanStart: ,
-    1185, // BooleanValue: true
-    1186, // BooleanValue: false
-    1281, // Integers: name
-    1421, // MoreIntegers: ;
-    1422, // MoreIntegers: ,
-    1544, // IntegerStart: =
-    1549, // IntegerStart: ;
-    1550, // IntegerStart: ,
-    1665, // Statements: name
-    1700, // Statements: skip
-    1701, // Statements: delay
-    1702, // Statements: raise
-    1703, // Statements: lower
-    1704, // Statements: invert
-    1705, // Statements: if
-    1709, // Statements: while
-    1711, // Statements: loop
-    1713, // Statements: exit
-    1714, // Statements: switch
-    1718, // Statements: break
-    1719, // Statements: parallel
-    1795, // AfterStatement: ||
-    1805, // AfterStatement: ;
-    1820, // AfterStatement: endprog
-    1835, // AfterStatement: else
-    1836, // AfterStatement: endif
-    1840, // AfterStatement: endloop
-    1843, // AfterStatement: case
-    1844, // AfterStatement: default
-    1845, // AfterStatement: endswitch
-    1848, // AfterStatement: endparallel
-    1921, // NextStatement: name
-    1923, // NextStatement: ||
-    1948, // NextStatement: endprog
-    1956, // NextStatement: skip
-    1957, // NextStatement: delay
-    1958, // NextStatement: raise
-    1959, // NextStatement: lower
-    1960, // NextStatement: invert
-    1961, // NextStatement: if
-    1963, // NextStatement: else
-    1964, // NextStatement: endif
-    1965, // NextStatement: while
-    1967, // NextStatement: loop
-    1968, // NextStatement: endloop
-    1969, // NextStatement: exit
-    1970, // NextStatement: switch
-    1971, // NextStatement: case
-    1972, // NextStatement: default
-    1973, // NextStatement: endswitch
-    1974, // NextStatement: break
-    1975, // NextStatement: parallel
-    1976, // NextStatement: endparallel
-    2049, // Statement: name
-    2084, // Statement: skip
-    2085, // Statement: delay
-    2086, // Statement: raise
-    2087, // Statement: lower
-    2088, // Statement: invert
-    2089, // Statement: if
-    2093, // Statement: while
-    2095, // Statement: loop
-    2097, // Statement: exit
-    2098, // Statement: switch
-    2102, // Statement: break
-    2103, // Statement: parallel
-    2219, // Else: else
-    2220, // Else: endif
-    2355, // Cases: case
-    2356, // Cases: default
-    2435, // Branches: ||
-    2488, // Branches: endparallel
-    2561, // Target: name
-    2691, // Index: ||
-    2692, // Index: |
-    2693, // Index: !=
-    2695, // Index: ==
-    2698, // Index: :
-    2701, // Index: ;
-    2704, // Index: )
-    2705, // Index: [
-    2707, // Index: >
-    2708, // Index: <
-    2709, // Index: &
-    2710, // Index: +
-    2711, // Index: -
-    2712, // Index: *
-    2713, // Index: /
-    2714, // Index: %
-    2716, // Index: endprog
-    2730, // Index: then
-    2731, // Index: else
-    2732, // Index: endif
-    2734, // Index: do
-    2736, // Index: endloop
-    2739, // Index: case
-    2740, // Index: default
-    2741, // Index: endswitch
-    2744, // Index: endparallel
-    2817, // Tier 0: name
-    2818, // Tier 0: number
-    2822, // Tier 0: !
-    2831, // Tier 0: (
-    2849, // Tier 0: true
-    2850, // Tier 0: false
-    2851, // Tier 0: int
-    2945, // Tier 1: name
-    2946, // Tier 1: number
-    2950, // Tier 1: !
-    2959, // Tier 1: (
-    2977, // Tier 1: true
-    2978, // Tier 1: false
-    2979, // Tier 1: int
-    3073, // Tier 2: name
-    3074, // Tier 2: number
-    3078, // Tier 2: !
-    3087, // Tier 2: (
-    3105, // Tier 2: true
-    3106, // Tier 2: false
-    3107, // Tier 2: int
-    3201, // Tier 3: name
-    3202, // Tier 3: number
-    3206, // Tier 3: !
-    3215, // Tier 3: (
-    3233, // Tier 3: true
-    3234, // Tier 3: false
-    3235, // Tier 3: int
-    3329, // Tier 4: name
-    3330, // Tier 4: number
-    3343, // Tier 4: (
-    3361, // Tier 4: true
-    3362, // Tier 4: false
-    3363, // Tier 4: int
-    3457, // Tier 5: name
-    3458, // Tier 5: number
-    3471, // Tier 5: (
-    3489, // Tier 5: true
-    3490, // Tier 5: false
-    3491, // Tier 5: int
-    3585, // Tier 6: name
-    3586, // Tier 6: number
-    3599, // Tier 6: (
-    3617, // Tier 6: true
-    3618, // Tier 6: false
-    3619, // Tier 6: int
-    3715, // Further 0: ||
-    3717, // Further 0: !=
-    3719, // Further 0: ==
-    3722, // Further 0: :
-    3725, // Further 0: ;
-    3728, // Further 0: )
-    3731, // Further 0: >
-    3732, // Further 0: <
-    3740, // Further 0: endprog
-    3754, // Further 0: then
-    3755, // Further 0: else
-    3756, // Further 0: endif
-    3758, // Further 0: do
-    3760, // Further 0: endloop
-    3763, // Further 0: case
-    3764, // Further 0: default
-    3765, // Further 0: endswitch
-    3768, // Further 0: endparallel
-    3843, // Further 1: ||
-    3845, // Further 1: !=
-    3847, // Further 1: ==
-    3850, // Further 1: :
-    3853, // Further 1: ;
-    3856, // Further 1: )
-    3859, // Further 1: >
-    3860, // Further 1: <
-    3861, // Further 1: &
-    3868, // Further 1: endprog
-    3882, // Further 1: then
-    3883, // Further 1: else
-    3884, // Further 1: endif
-    3886, // Further 1: do
-    3888, // Further 1: endloop
-    3891, // Further 1: case
-    3892, // Further 1: default
-    3893, // Further 1: endswitch
-    3896, // Further 1: endparallel
-    3971, // Further 2: ||
-    3972, // Further 2: |
-    3973, // Further 2: !=
-    3975, // Further 2: ==
-    3978, // Further 2: :
-    3981, // Further 2: ;
-    3984, // Further 2: )
-    3987, // Further 2: >
-    3988, // Further 2: <
-    3989, // Further 2: &
-    3996, // Further 2: endprog
-    4010, // Further 2: then
-    4011, // Further 2: else
-    4012, // Further 2: endif
-    4014, // Further 2: do
-    4016, // Further 2: endloop
-    4019, // Further 2: case
-    4020, // Further 2: default
-    4021, // Further 2: endswitch
-    4024, // Further 2: endparallel
-    4099, // Further 4: ||
-    4100, // Further 4: |
-    4101, // Further 4: !=
-    4103, // Further 4: ==
-    4106, // Further 4: :
-    4109, // Further 4: ;
-    4112, // Further 4: )
-    4115, // Further 4: >
-    4116, // Further 4: <
-    4117, // Further 4: &
-    4118, // Further 4: +
-    4119, // Further 4: -
-    4124, // Further 4: endprog
-    4138, // Further 4: then
-    4139, // Further 4: else
-    4140, // Further 4: endif
-    4142, // Further 4: do
-    4144, // Further 4: endloop
-    4147, // Further 4: case
-    4148, // Further 4: default
-    4149, // Further 4: endswitch
-    4152, // Further 4: endparallel
-    4227, // Further 5: ||
-    4228, // Further 5: |
-    4229, // Further 5: !=
-    4231, // Further 5: ==
-    4234, // Further 5: :
-    4237, // Further 5: ;
-    4240, // Further 5: )
-    4243, // Further 5: >
-    4244, // Further 5: <
-    4245, // Further 5: &
-    4246, // Further 5: +
-    4247, // Further 5: -
-    4248, // Further 5: *
-    4249, // Further 5: /
-    4250, // Further 5: %
-    4252, // Further 5: endprog
-    4266, // Further 5: then
-    4267, // Further 5: else
-    4268, // Further 5: endif
-    4270, // Further 5: do
-    4272, // Further 5: endloop
-    4275, // Further 5: case
-    4276, // Further 5: default
-    4277, // Further 5: endswitch
-    4280, // Further 5: endparallel
+    185, // Declarations: procedure
+    257, // Procedure: name
+    399, // Formals: (
+    513, // FormalNames: name
+    528, // FormalNames: )
+    654, // MoreFormals: ,
+    656, // MoreFormals: )
+    769, // AfterProcedure: name
+    781, // AfterProcedure: ;
+    797, // AfterProcedure: input
+    798, // AfterProcedure: output
+    799, // AfterProcedure: internal
+    800, // AfterProcedure: integer
+    804, // AfterProcedure: skip
+    805, // AfterProcedure: delay
+    806, // AfterProcedure: raise
+    807, // AfterProcedure: lower
+    808, // AfterProcedure: invert
+    809, // AfterProcedure: if
+    813, // AfterProcedure: while
+    815, // AfterProcedure: loop
+    817, // AfterProcedure: exit
+    818, // AfterProcedure: switch
+    822, // AfterProcedure: break
+    823, // AfterProcedure: parallel
+    825, // AfterProcedure: procedure
+    925, // Declaration: input
+    926, // Declaration: output
+    927, // Declaration: internal
+    928, // Declaration: integer
+    1025, // Inputs: name
+    1165, // MoreInputs: ;
+    1166, // MoreInputs: ,
+    1288, // Ending: =
+    1291, // Ending: .H
+    1292, // Ending: .L
+    1293, // Ending: ;
+    1294, // Ending: ,
+    1409, // Booleans: name
+    1549, // MoreBooleans: ;
+    1550, // MoreBooleans: ,
+    1672, // BooleanStart: =
+    1677, // BooleanStart: ;
+    1678, // BooleanStart: ,
+    1825, // BooleanValue: true
+    1826, // BooleanValue: false
+    1921, // Integers: name
+    2061, // MoreIntegers: ;
+    2062, // MoreIntegers: ,
+    2184, // IntegerStart: =
+    2189, // IntegerStart: ;
+    2190, // IntegerStart: ,
+    2305, // Statements: name
+    2340, // Statements: skip
+    2341, // Statements: delay
+    2342, // Statements: raise
+    2343, // Statements: lower
+    2344, // Statements: invert
+    2345, // Statements: if
+    2349, // Statements: while
+    2351, // Statements: loop
+    2353, // Statements: exit
+    2354, // Statements: switch
+    2358, // Statements: break
+    2359, // Statements: parallel
+    2435, // AfterStatement: ||
+    2445, // AfterStatement: ;
+    2460, // AfterStatement: endprog
+    2475, // AfterStatement: else
+    2476, // AfterStatement: endif
+    2480, // AfterStatement: endloop
+    2483, // AfterStatement: case
+    2484, // AfterStatement: default
+    2485, // AfterStatement: endswitch
+    2488, // AfterStatement: endparallel
+    2490, // AfterStatement: endproc
+    2561, // NextStatement: name
+    2563, // NextStatement: ||
+    2588, // NextStatement: endprog
+    2596, // NextStatement: skip
+    2597, // NextStatement: delay
+    2598, // NextStatement: raise
+    2599, // NextStatement: lower
+    2600, // NextStatement: invert
+    2601, // NextStatement: if
+    2603, // NextStatement: else
+    2604, // NextStatement: endif
+    2605, // NextStatement: while
+    2607, // NextStatement: loop
+    2608, // NextStatement: endloop
+    2609, // NextStatement: exit
+    2610, // NextStatement: switch
+    2611, // NextStatement: case
+    2612, // NextStatement: default
+    2613, // NextStatement: endswitch
+    2614, // NextStatement: break
+    2615, // NextStatement: parallel
+    2616, // NextStatement: endparallel
+    2618, // NextStatement: endproc
+    2689, // Statement: name
+    2724, // Statement: skip
+    2725, // Statement: delay
+    2726, // Statement: raise
+    2727, // Statement: lower
+    2728, // Statement: invert
+    2729, // Statement: if
+    2733, // Statement: while
+    2735, // Statement: loop
+    2737, // Statement: exit
+    2738, // Statement: switch
+    2742, // Statement: break
+    2743, // Statement: parallel
+    2825, // AfterName: :=
+    2831, // AfterName: (
+    2945, // Actuals: name
+    2946, // Actuals: number
+    2950, // Actuals: !
+    2959, // Actuals: (
+    2960, // Actuals: )
+    2977, // Actuals: true
+    2978, // Actuals: false
+    2979, // Actuals: int
+    3086, // MoreActuals: ,
+    3088, // MoreActuals: )
+    3243, // Else: else
+    3244, // Else: endif
+    3379, // Cases: case
+    3380, // Cases: default
+    3459, // Branches: ||
+    3512, // Branches: endparallel
+    3585, // Target: name
+    3715, // Index: ||
+    3716, // Index: |
+    3717, // Index: !=
+    3719, // Index: ==
+    3722, // Index: :
+    3725, // Index: ;
+    3726, // Index: ,
+    3728, // Index: )
+    3729, // Index: [
+    3731, // Index: >
+    3732, // Index: <
+    3733, // Index: &
+    3734, // Index: +
+    3735, // Index: -
+    3736, // Index: *
+    3737, // Index: /
+    3738, // Index: %
+    3740, // Index: endprog
+    3754, // Index: then
+    3755, // Index: else
+    3756, // Index: endif
+    3758, // Index: do
+    3760, // Index: endloop
+    3763, // Index: case
+    3764, // Index: default
+    3765, // Index: endswitch
+    3768, // Index: endparallel
+    3770, // Index: endproc
+    3841, // Tier 0: name
+    3842, // Tier 0: number
+    3846, // Tier 0: !
+    3855, // Tier 0: (
+    3873, // Tier 0: true
+    3874, // Tier 0: false
+    3875, // Tier 0: int
+    3969, // Tier 1: name
+    3970, // Tier 1: number
+    3974, // Tier 1: !
+    3983, // Tier 1: (
+    4001, // Tier 1: true
+    4002, // Tier 1: false
+    4003, // Tier 1: int
+    4097, // Tier 2: name
+    4098, // Tier 2: number
+    4102, // Tier 2: !
+    4111, // Tier 2: (
+    4129, // Tier 2: true
+    4130, // Tier 2: false
+    4131, // Tier 2: int
+    4225, // Tier 3: name
+    4226, // Tier 3: number
+    4230, // Tier 3: !
+    4239, // Tier 3: (
+    4257, // Tier 3: true
+    4258, // Tier 3: false
+    4259, // Tier 3: int
+    4353, // Tier 4: name
+    4354, // Tier 4: number
+    4367, // Tier 4: (
+    4385, // Tier 4: true
+    4386, // Tier 4: false
+    4387, // Tier 4: int
+    4481, // Tier 5: name
+    4482, // Tier 5: number
+    4495, // Tier 5: (
+    4513, // Tier 5: true
+    4514, // Tier 5: false
+    4515, // Tier 5: int
+    4609, // Tier 6: name
+    4610, // Tier 6: number
+    4623, // Tier 6: (
+    4641, // Tier 6: true
+    4642, // Tier 6: false
+    4643, // Tier 6: int
+    4739, // Further 0: ||
+    4741, // Further 0: !=
+    4743, // Further 0: ==
+    4746, // Further 0: :
+    4749, // Further 0: ;
+    4750, // Further 0: ,
+    4752, // Further 0: )
+    4755, // Further 0: >
+    4756, // Further 0: <
+    4764, // Further 0: endprog
+    4778, // Further 0: then
+    4779, // Further 0: else
+    4780, // Further 0: endif
+    4782, // Further 0: do
+    4784, // Further 0: endloop
+    4787, // Further 0: case
+    4788, // Further 0: default
+    4789, // Further 0: endswitch
+    4792, // Further 0: endparallel
+    4794, // Further 0: endproc
+    4867, // Further 1: ||
+    4869, // Further 1: !=
+    4871, // Further 1: ==
+    4874, // Further 1: :
+    4877, // Further 1: ;
+    4878, // Further 1: ,
+    4880, // Further 1: )
+    4883, // Further 1: >
+    4884, // Further 1: <
+    4885, // Further 1: &
+    4892, // Further 1: endprog
+    4906, // Further 1: then
+    4907, // Further 1: else
+    4908, // Further 1: endif
+    4910, // Further 1: do
+    4912, // Further 1: endloop
+    4915, // Further 1: case
+    4916, // Further 1: default
+    4917, // Further 1: endswitch
+    4920, // Further 1: endparallel
+    4922, // Further 1: endproc
+    4995, // Further 2: ||
+    4996, // Further 2: |
+    4997, // Further 2: !=
+    4999, // Further 2: ==
+    5002, // Further 2: :
+    5005, // Further 2: ;
+    5006, // Further 2: ,
+    5008, // Further 2: )
+    5011, // Further 2: >
+    5012, // Further 2: <
+    5013, // Further 2: &
+    5020, // Further 2: endprog
+    5034, // Further 2: then
+    5035, // Further 2: else
+    5036, // Further 2: endif
+    5038, // Further 2: do
+    5040, // Further 2: endloop
+    5043, // Further 2: case
+    5044, // Further 2: default
+    5045, // Further 2: endswitch
+    5048, // Further 2: endparallel
+    5050, // Further 2: endproc
+    5123, // Further 4: ||
+    5124, // Further 4: |
+    5125, // Further 4: !=
+    5127, // Further 4: ==
+    5130, // Further 4: :
+    5133, // Further 4: ;
+    5134, // Further 4: ,
+    5136, // Further 4: )
+    5139, // Further 4: >
+    5140, // Further 4: <
+    5141, // Further 4: &
+    5142, // Further 4: +
+    5143, // Further 4: -
+    5148, // Further 4: endprog
+    5162, // Further 4: then
+    5163, // Further 4: else
+    5164, // Further 4: endif
+    5166, // Further 4: do
+    5168, // Further 4: endloop
+    5171, // Further 4: case
+    5172, // Further 4: default
+    5173, // Further 4: endswitch
+    5176, // Further 4: endparallel
+    5178, // Further 4: endproc
+    5251, // Further 5: ||
+    5252, // Further 5: |
+    5253, // Further 5: !=
+    5255, // Further 5: ==
+    5258, // Further 5: :
+    5261, // Further 5: ;
+    5262, // Further 5: ,
+    5264, // Further 5: )
+    5267, // Further 5: >
+    5268, // Further 5: <
+    5269, // Further 5: &
+    5270, // Further 5: +
+    5271, // Further 5: -
+    5272, // Further 5: *
+    5273, // Further 5: /
+    5274, // Further 5: %
+    5276, // Further 5: endprog
+    5290, // Further 5: then
+    5291, // Further 5: else
+    5292, // Further 5: endif
+    5294, // Further 5: do
+    5296, // Further 5: endloop
+    5299, // Further 5: case
+    5300, // Further 5: default
+    5301, // Further 5: endswitch
+    5304, // Further 5: endparallel
+    5306, // Further 5: endproc
 ];
 
 // Where the row begins that it calls for.
-pub const PLACES: [u16; 285] = [
+pub const PLACES: [u16; 337] = [
     3, // Program: program
     10, // Declarations: name
     11, // Declarations: input
@@ -314,271 +366,323 @@ pub const PLACES: [u16; 285] = [
     10, // Declarations: switch
     10, // Declarations: break
     10, // Declarations: parallel
-    15, // Declaration: input
-    18, // Declaration: output
-    21, // Declaration: internal
-    24, // Declaration: integer
-    27, // Inputs: name
-    31, // MoreInputs: ;
-    32, // MoreInputs: ,
-    35, // Ending: =
-    36, // Ending: .H
-    38, // Ending: .L
-    35, // Ending: ;
-    35, // Ending: ,
-    40, // Booleans: name
-    45, // MoreBooleans: ;
-    46, // MoreBooleans: ,
-    50, // BooleanStart: =
-    49, // BooleanStart: ;
-    49, // BooleanStart: ,
-    53, // BooleanValue: true
-    55, // BooleanValue: false
-    57, // Integers: name
-    64, // MoreIntegers: ;
-    65, // MoreIntegers: ,
-    69, // IntegerStart: =
-    68, // IntegerStart: ;
-    68, // IntegerStart: ,
-    72, // Statements: name
-    72, // Statements: skip
-    72, // Statements: delay
-    72, // Statements: raise
-    72, // Statements: lower
-    72, // Statements: invert
-    72, // Statements: if
-    72, // Statements: while
-    72, // Statements: loop
-    72, // Statements: exit
-    72, // Statements: switch
-    72, // Statements: break
-    72, // Statements: parallel
-    75, // AfterStatement: ||
-    76, // AfterStatement: ;
-    75, // AfterStatement: endprog
-    75, // AfterStatement: else
-    75, // AfterStatement: endif
-    75, // AfterStatement: endloop
-    75, // AfterStatement: case
-    75, // AfterStatement: default
-    75, // AfterStatement: endswitch
-    75, // AfterStatement: endparallel
-    80, // NextStatement: name
-    79, // NextStatement: ||
-    79, // NextStatement: endprog
-    80, // NextStatement: skip
-    80, // NextStatement: delay
-    80, // NextStatement: raise
-    80, // NextStatement: lower
-    80, // NextStatement: invert
-    80, // NextStatement: if
-    79, // NextStatement: else
-    79, // NextStatement: endif
-    80, // NextStatement: while
-    80, // NextStatement: loop
-    79, // NextStatement: endloop
-    80, // NextStatement: exit
-    80, // NextStatement: switch
-    79, // NextStatement: case
-    79, // NextStatement: default
-    79, // NextStatement: endswitch
-    80, // NextStatement: break
-    80, // NextStatement: parallel
-    79, // NextStatement: endparallel
-    108, // Statement: name
-    82, // Statement: skip
-    84, // Statement: delay
-    87, // Statement: raise
-    94, // Statement: lower
-    101, // Statement: invert
-    112, // Statement: if
-    121, // Statement: while
-    130, // Statement: loop
-    136, // Statement: exit
-    138, // Statement: switch
-    151, // Statement: break
-    153, // Statement: parallel
-    163, // Else: else
-    162, // Else: endif
-    167, // Cases: case
-    166, // Cases: default
-    174, // Branches: ||
-    173, // Branches: endparallel
-    178, // Target: name
-    181, // Index: ||
-    181, // Index: |
-    181, // Index: !=
-    181, // Index: ==
-    181, // Index: :
-    181, // Index: ;
-    181, // Index: )
-    182, // Index: [
-    181, // Index: >
-    181, // Index: <
-    181, // Index: &
-    181, // Index: +
-    181, // Index: -
-    181, // Index: *
-    181, // Index: /
-    181, // Index: %
-    181, // Index: endprog
-    181, // Index: then
-    181, // Index: else
-    181, // Index: endif
-    181, // Index: do
-    181, // Index: endloop
-    181, // Index: case
-    181, // Index: default
-    181, // Index: endswitch
-    181, // Index: endparallel
-    186, // Tier 0: name
-    186, // Tier 0: number
-    186, // Tier 0: !
-    186, // Tier 0: (
-    186, // Tier 0: true
-    186, // Tier 0: false
-    186, // Tier 0: int
-    189, // Tier 1: name
-    189, // Tier 1: number
-    189, // Tier 1: !
-    189, // Tier 1: (
-    189, // Tier 1: true
-    189, // Tier 1: false
-    189, // Tier 1: int
-    192, // Tier 2: name
-    192, // Tier 2: number
-    192, // Tier 2: !
-    192, // Tier 2: (
-    192, // Tier 2: true
-    192, // Tier 2: false
-    192, // Tier 2: int
-    200, // Tier 3: name
-    200, // Tier 3: number
-    195, // Tier 3: !
-    200, // Tier 3: (
-    200, // Tier 3: true
-    200, // Tier 3: false
-    200, // Tier 3: int
-    202, // Tier 4: name
-    202, // Tier 4: number
-    202, // Tier 4: (
-    202, // Tier 4: true
-    202, // Tier 4: false
-    202, // Tier 4: int
-    205, // Tier 5: name
-    205, // Tier 5: number
-    205, // Tier 5: (
-    205, // Tier 5: true
-    205, // Tier 5: false
-    205, // Tier 5: int
-    208, // Tier 6: name
-    211, // Tier 6: number
-    224, // Tier 6: (
-    213, // Tier 6: true
-    215, // Tier 6: false
-    217, // Tier 6: int
-    230, // Further 0: ||
-    235, // Further 0: !=
-    231, // Further 0: ==
-    230, // Further 0: :
-    230, // Further 0: ;
-    230, // Further 0: )
-    239, // Further 0: >
-    243, // Further 0: <
-    230, // Further 0: endprog
-    230, // Further 0: then
-    230, // Further 0: else
-    230, // Further 0: endif
-    230, // Further 0: do
-    230, // Further 0: endloop
-    230, // Further 0: case
-    230, // Further 0: default
-    230, // Further 0: endswitch
-    230, // Further 0: endparallel
-    247, // Further 1: ||
-    247, // Further 1: !=
-    247, // Further 1: ==
-    247, // Further 1: :
-    247, // Further 1: ;
-    247, // Further 1: )
-    247, // Further 1: >
-    247, // Further 1: <
-    248, // Further 1: &
-    247, // Further 1: endprog
-    247, // Further 1: then
-    247, // Further 1: else
-    247, // Further 1: endif
-    247, // Further 1: do
-    247, // Further 1: endloop
-    247, // Further 1: case
-    247, // Further 1: default
-    247, // Further 1: endswitch
-    247, // Further 1: endparallel
-    252, // Further 2: ||
-    253, // Further 2: |
-    252, // Further 2: !=
-    252, // Further 2: ==
-    252, // Further 2: :
-    252, // Further 2: ;
-    252, // Further 2: )
-    252, // Further 2: >
-    252, // Further 2: <
-    252, // Further 2: &
-    252, // Further 2: endprog
-    252, // Further 2: then
-    252, // Further 2: else
-    252, // Further 2: endif
-    252, // Further 2: do
-    252, // Further 2: endloop
-    252, // Further 2: case
-    252, // Further 2: default
-    252, // Further 2: endswitch
-    252, // Further 2: endparallel
-    257, // Further 4: ||
-    257, // Further 4: |
-    257, // Further 4: !=
-    257, // Further 4: ==
-    257, // Further 4: :
-    257, // Further 4: ;
-    257, // Further 4: )
-    257, // Further 4: >
-    257, // Further 4: <
-    257, // Further 4: &
-    258, // Further 4: +
-    262, // Further 4: -
-    257, // Further 4: endprog
-    257, // Further 4: then
-    257, // Further 4: else
-    257, // Further 4: endif
-    257, // Further 4: do
-    257, // Further 4: endloop
-    257, // Further 4: case
-    257, // Further 4: default
-    257, // Further 4: endswitch
-    257, // Further 4: endparallel
-    266, // Further 5: ||
-    266, // Further 5: |
-    266, // Further 5: !=
-    266, // Further 5: ==
-    266, // Further 5: :
-    266, // Further 5: ;
-    266, // Further 5: )
-    266, // Further 5: >
-    266, // Further 5: <
-    266, // Further 5: &
-    266, // Further 5: +
-    266, // Further 5: -
-    267, // Further 5: *
-    271, // Further 5: /
-    275, // Further 5: %
-    266, // Further 5: endprog
-    266, // Further 5: then
-    266, // Further 5: else
-    266, // Further 5: endif
-    266, // Further 5: do
-    266, // Further 5: endloop
-    266, // Further 5: case
-    266, // Further 5: default
-    266, // Further 5: endswitch
-    266, // Further 5: endparallel
+    15, // Declarations: procedure
+    20, // Procedure: name
+    25, // Formals: (
+    32, // FormalNames: name
+    31, // FormalNames: )
+    36, // MoreFormals: ,
+    35, // MoreFormals: )
+    40, // AfterProcedure: name
+    41, // AfterProcedure: ;
+    40, // AfterProcedure: input
+    40, // AfterProcedure: output
+    40, // AfterProcedure: internal
+    40, // AfterProcedure: integer
+    40, // AfterProcedure: skip
+    40, // AfterProcedure: delay
+    40, // AfterProcedure: raise
+    40, // AfterProcedure: lower
+    40, // AfterProcedure: invert
+    40, // AfterProcedure: if
+    40, // AfterProcedure: while
+    40, // AfterProcedure: loop
+    40, // AfterProcedure: exit
+    40, // AfterProcedure: switch
+    40, // AfterProcedure: break
+    40, // AfterProcedure: parallel
+    40, // AfterProcedure: procedure
+    43, // Declaration: input
+    46, // Declaration: output
+    49, // Declaration: internal
+    52, // Declaration: integer
+    55, // Inputs: name
+    59, // MoreInputs: ;
+    60, // MoreInputs: ,
+    63, // Ending: =
+    64, // Ending: .H
+    66, // Ending: .L
+    63, // Ending: ;
+    63, // Ending: ,
+    68, // Booleans: name
+    73, // MoreBooleans: ;
+    74, // MoreBooleans: ,
+    78, // BooleanStart: =
+    77, // BooleanStart: ;
+    77, // BooleanStart: ,
+    81, // BooleanValue: true
+    83, // BooleanValue: false
+    85, // Integers: name
+    92, // MoreIntegers: ;
+    93, // MoreIntegers: ,
+    97, // IntegerStart: =
+    96, // IntegerStart: ;
+    96, // IntegerStart: ,
+    100, // Statements: name
+    100, // Statements: skip
+    100, // Statements: delay
+    100, // Statements: raise
+    100, // Statements: lower
+    100, // Statements: invert
+    100, // Statements: if
+    100, // Statements: while
+    100, // Statements: loop
+    100, // Statements: exit
+    100, // Statements: switch
+    100, // Statements: break
+    100, // Statements: parallel
+    103, // AfterStatement: ||
+    104, // AfterStatement: ;
+    103, // AfterStatement: endprog
+    103, // AfterStatement: else
+    103, // AfterStatement: endif
+    103, // AfterStatement: endloop
+    103, // AfterStatement: case
+    103, // AfterStatement: default
+    103, // AfterStatement: endswitch
+    103, // AfterStatement: endparallel
+    103, // AfterStatement: endproc
+    108, // NextStatement: name
+    107, // NextStatement: ||
+    107, // NextStatement: endprog
+    108, // NextStatement: skip
+    108, // NextStatement: delay
+    108, // NextStatement: raise
+    108, // NextStatement: lower
+    108, // NextStatement: invert
+    108, // NextStatement: if
+    107, // NextStatement: else
+    107, // NextStatement: endif
+    108, // NextStatement: while
+    108, // NextStatement: loop
+    107, // NextStatement: endloop
+    108, // NextStatement: exit
+    108, // NextStatement: switch
+    107, // NextStatement: case
+    107, // NextStatement: default
+    107, // NextStatement: endswitch
+    108, // NextStatement: break
+    108, // NextStatement: parallel
+    107, // NextStatement: endparallel
+    107, // NextStatement: endproc
+    136, // Statement: name
+    110, // Statement: skip
+    112, // Statement: delay
+    115, // Statement: raise
+    122, // Statement: lower
+    129, // Statement: invert
+    139, // Statement: if
+    148, // Statement: while
+    157, // Statement: loop
+    163, // Statement: exit
+    165, // Statement: switch
+    178, // Statement: break
+    180, // Statement: parallel
+    189, // AfterName: :=
+    192, // AfterName: (
+    199, // Actuals: name
+    199, // Actuals: number
+    199, // Actuals: !
+    199, // Actuals: (
+    198, // Actuals: )
+    199, // Actuals: true
+    199, // Actuals: false
+    199, // Actuals: int
+    203, // MoreActuals: ,
+    202, // MoreActuals: )
+    208, // Else: else
+    207, // Else: endif
+    212, // Cases: case
+    211, // Cases: default
+    219, // Branches: ||
+    218, // Branches: endparallel
+    223, // Target: name
+    226, // Index: ||
+    226, // Index: |
+    226, // Index: !=
+    226, // Index: ==
+    226, // Index: :
+    226, // Index: ;
+    226, // Index: ,
+    226, // Index: )
+    227, // Index: [
+    226, // Index: >
+    226, // Index: <
+    226, // Index: &
+    226, // Index: +
+    226, // Index: -
+    226, // Index: *
+    226, // Index: /
+    226, // Index: %
+    226, // Index: endprog
+    226, // Index: then
+    226, // Index: else
+    226, // Index: endif
+    226, // Index: do
+    226, // Index: endloop
+    226, // Index: case
+    226, // Index: default
+    226, // Index: endswitch
+    226, // Index: endparallel
+    226, // Index: endproc
+    231, // Tier 0: name
+    231, // Tier 0: number
+    231, // Tier 0: !
+    231, // Tier 0: (
+    231, // Tier 0: true
+    231, // Tier 0: false
+    231, // Tier 0: int
+    234, // Tier 1: name
+    234, // Tier 1: number
+    234, // Tier 1: !
+    234, // Tier 1: (
+    234, // Tier 1: true
+    234, // Tier 1: false
+    234, // Tier 1: int
+    237, // Tier 2: name
+    237, // Tier 2: number
+    237, // Tier 2: !
+    237, // Tier 2: (
+    237, // Tier 2: true
+    237, // Tier 2: false
+    237, // Tier 2: int
+    245, // Tier 3: name
+    245, // Tier 3: number
+    240, // Tier 3: !
+    245, // Tier 3: (
+    245, // Tier 3: true
+    245, // Tier 3: false
+    245, // Tier 3: int
+    247, // Tier 4: name
+    247, // Tier 4: number
+    247, // Tier 4: (
+    247, // Tier 4: true
+    247, // Tier 4: false
+    247, // Tier 4: int
+    250, // Tier 5: name
+    250, // Tier 5: number
+    250, // Tier 5: (
+    250, // Tier 5: true
+    250, // Tier 5: false
+    250, // Tier 5: int
+    253, // Tier 6: name
+    256, // Tier 6: number
+    269, // Tier 6: (
+    258, // Tier 6: true
+    260, // Tier 6: false
+    262, // Tier 6: int
+    275, // Further 0: ||
+    280, // Further 0: !=
+    276, // Further 0: ==
+    275, // Further 0: :
+    275, // Further 0: ;
+    275, // Further 0: ,
+    275, // Further 0: )
+    284, // Further 0: >
+    288, // Further 0: <
+    275, // Further 0: endprog
+    275, // Further 0: then
+    275, // Further 0: else
+    275, // Further 0: endif
+    275, // Further 0: do
+    275, // Further 0: endloop
+    275, // Further 0: case
+    275, // Further 0: default
+    275, // Further 0: endswitch
+    275, // Further 0: endparallel
+    275, // Further 0: endproc
+    292, // Further 1: ||
+    292, // Further 1: !=
+    292, // Further 1: ==
+    292, // Further 1: :
+    292, // Further 1: ;
+    292, // Further 1: ,
+    292, // Further 1: )
+    292, // Further 1: >
+    292, // Further 1: <
+    293, // Further 1: &
+    292, // Further 1: endprog
+    292, // Further 1: then
+    292, // Further 1: else
+    292, // Further 1: endif
+    292, // Further 1: do
+    292, // Further 1: endloop
+    292, // Further 1: case
+    292, // Further 1: default
+    292, // Further 1: endswitch
+    292, // Further 1: endparallel
+    292, // Further 1: endproc
+    297, // Further 2: ||
+    298, // Further 2: |
+    297, // Further 2: !=
+    297, // Further 2: ==
+    297, // Further 2: :
+    297, // Further 2: ;
+    297, // Further 2: ,
+    297, // Further 2: )
+    297, // Further 2: >
+    297, // Further 2: <
+    297, // Further 2: &
+    297, // Further 2: endprog
+    297, // Further 2: then
+    297, // Further 2: else
+    297, // Further 2: endif
+    297, // Further 2: do
+    297, // Further 2: endloop
+    297, // Further 2: case
+    297, // Further 2: default
+    297, // Further 2: endswitch
+    297, // Further 2: endparallel
+    297, // Further 2: endproc
+    302, // Further 4: ||
+    302, // Further 4: |
+    302, // Further 4: !=
+    302, // Further 4: ==
+    302, // Further 4: :
+    302, // Further 4: ;
+    302, // Further 4: ,
+    302, // Further 4: )
+    302, // Further 4: >
+    302, // Further 4: <
+    302, // Further 4: &
+    303, // Further 4: +
+    307, // Further 4: -
+    302, // Further 4: endprog
+    302, // Further 4: then
+    302, // Further 4: else
+    302, // Further 4: endif
+    302, // Further 4: do
+    302, // Further 4: endloop
+    302, // Further 4: case
+    302, // Further 4: default
+    302, // Further 4: endswitch
+    302, // Further 4: endparallel
+    302, // Further 4: endproc
+    311, // Further 5: ||
+    311, // Further 5: |
+    311, // Further 5: !=
+    311, // Further 5: ==
+    311, // Further 5: :
+    311, // Further 5: ;
+    311, // Further 5: ,
+    311, // Further 5: )
+    311, // Further 5: >
+    311, // Further 5: <
+    311, // Further 5: &
+    311, // Further 5: +
+    311, // Further 5: -
+    312, // Further 5: *
+    316, // Further 5: /
+    320, // Further 5: %
+    311, // Further 5: endprog
+    311, // Further 5: then
+    311, // Further 5: else
+    311, // Further 5: endif
+    311, // Further 5: do
+    311, // Further 5: endloop
+    311, // Further 5: case
+    311, // Further 5: default
+    311, // Further 5: endswitch
+    311, // Further 5: endparallel
+    311, // Further 5: endproc
 ];

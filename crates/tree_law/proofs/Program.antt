@@ -29,7 +29,7 @@ use Rattle.nodes.specs.Ready.{Leaves, Ready}
 use Rattle.expr_law.proofs.Placed.{placed}
 use Rattle.items.specs.declared.Marks.{Marks}
 use Rattle.items.specs.Walk.{Walked, walked, walkAll}
-use Rattle.stmts_law.proofs.Walks.{Every}
+use Rattle.kept_law.specs.Kept.{Every}
 use Rattle.formed_law.proofs.Formed.{Formed, formed}
 use Rattle.tree_law.proofs.Moved.{Room, Moved, moved-all}
 use Rattle.tree_law.proofs.Held.{Leaf, HeldList}

@@ -27,7 +27,7 @@ use Rattle.nodes.specs.Fit.{isWhole, Fit, sizeOf}
 use Rattle.parts.specs.Sum.{numberOf, widthOf}
 use Rattle.expr_law.proofs.Least.{gather-append}
 use Rattle.expr_law.proofs.Placed.{PlacedVariable}
-use Rattle.stmts_law.proofs.Walks.{Every}
+use Rattle.kept_law.specs.Kept.{Every}
 use Rattle.stmts_law.proofs.Faults.{SmallItem}
 
 pub record Right (ds : List Declaration) (x : Item) : Type 0 where

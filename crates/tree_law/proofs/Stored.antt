@@ -29,7 +29,8 @@ use Rattle.expr_law.proofs.Placed.{Placed}
 use Rattle.expr_law.proofs.Fine as exprs
 use Rattle.expr_law.proofs.Fine.{Fine}
 use Rattle.items.specs.Walk.{changeKind, Walked, walked, testAt, tested, begun, begunAt, withActs, withNotes, cased, leaves, delayed, targetMarks, assigned, assignAt, changeAt, together, endFor, finished, branched, walk, walkAll, walkCases, walkEach}
-use Rattle.stmts_law.proofs.Walks.{Every, every-left, every-right}
+use Rattle.kept_law.specs.Kept.{Every}
+use Rattle.stmts_law.proofs.Walks.{every-left, every-right}
 use Rattle.stmts_law.proofs.Acts.{acts-all, some-acts}
 use Rattle.tree_law.proofs.Same.{Whole, Most, whole-whole, whole-most, whole-back, most-whole, most-back, most-most}
 use Rattle.tree_law.proofs.Node.{Holds, holds, node-grown, width-held, branch-held, before-branch}

@@ -7,7 +7,7 @@ use crate::words::{is_blank, word_at};
 
 /// Words of which the first stands for all: where it may stand, so may the others.
 const GROUPS: [(&str, &str); 4] = [
-    ("a declaration", "input output internal integer"),
+    ("a declaration", "input output internal integer procedure"),
     ("a statement", "skip delay raise lower invert if while loop exit switch break parallel x"),
     ("an expression", "int true false ( ! x 1"),
     ("an operator", "+ - * / % & | == != < >"),
@@ -16,10 +16,9 @@ const GROUPS: [(&str, &str); 4] = [
 /// All other words; `x` stands for a name and `1` for a number.
 const SINGLES: &str =
     "program x 1 true false .H .L = [ ] ( ) , := : ; || then do loop else case default endif endloop \
-                       endswitch endparallel endprog";
+                       endswitch endparallel endproc endprog";
 
-const RESERVED: [&[u8]; 7] =
-    [b"procedure", b"endproc", b"process", b"processtype", b"endtype", b"compress", b"endcompress"];
+const RESERVED: [&[u8]; 5] = [b"process", b"processtype", b"endtype", b"compress", b"endcompress"];
 
 /// Pairs of words that are one word elsewhere, and what to write here.
 const ELSEWHERE: [(&[u8], &[u8], &str); 7] = [
@@ -86,8 +85,8 @@ impl Expected<'_> {
         match word {
             _ if !self.is_known() => false,
             b"if" | b"while" | b"loop" | b"switch" | b"parallel" => self.has("skip"),
-            // After `int`, `raise` and the like nothing else may stand.
-            b"(" => self.has("int") || self.words.is_empty(),
+            // After `int`, `raise` and the like nothing else may stand; after the name of a call `:=` might.
+            b"(" => self.has("int") || self.has(":=") || self.words.is_empty(),
             b"!" => self.has("int") && !self.ends_with_arithmetic(),
             _ => false,
         }

@@ -1,6 +1,7 @@
 //! What is particular to a case: what was found at the place, and what would be right there. It explains, and decides
 //! nothing; where it knows nothing better, the rule's own words stand.
 
+mod calls;
 mod expected;
 mod kinds;
 mod names;
@@ -11,7 +12,7 @@ use crate::calls::LARGEST_ROOM;
 use crate::count::count;
 use crate::refusal::Refusal;
 use crate::safe;
-use crate::words::word_at;
+use crate::words::{may_name, word_at};
 
 #[derive(Default)]
 pub struct Hint {
@@ -36,6 +37,9 @@ impl Hint {
 }
 
 pub fn of_source(source: &[u8], room: u32, Refusal { number, place }: Refusal) -> Hint {
+    if let Some(hint) = calls::hint(source, number, place) {
+        return hint;
+    }
     match number {
         1 => Hint::found(format!("a room of {room}{}", if room == u32::MAX { " or more" } else { "" })),
         3 => Hint::found("more than 8,192 bytes"),
@@ -95,6 +99,11 @@ impl Around<'_> {
                 second_after: text(number + 2),
             }
         })
+    }
+
+    /// A name with a `(` behind it, which in a text that is a program begins a call, or a procedure's head.
+    fn is_call(&self) -> bool {
+        self.after == b"(" && may_name(self.word)
     }
 
     /// The word that a refusal points at.

@@ -1,22 +1,31 @@
-//! Refusal 6: an unknown name, or one declared again.
+//! Refusal 6 at a name: it is unknown, or declared again.
 
 use super::{quoted, Hint};
 use crate::names::Names;
 use crate::words::word_at;
 
+const ONCE: &str = "a name is declared once, before the statements; upper and lower case are different";
+const DECLARE: &str = "declare it once, before the first statement";
+
 pub fn hint(source: &[u8], place: usize) -> Hint {
     let word = word_at(source, place);
     let names = Names::of(source);
     if place < names.statements {
-        return Hint::found(format!("{} is declared already", quoted(word))).right("another name, or one declaration");
+        let found = Hint::found(format!("{} is declared already", quoted(word)));
+        return found.rule(ONCE).right("another name, or one declaration");
     }
-    let found = Hint::found(format!("{} is not declared", quoted(word)));
+    if names.procedures.iter().any(|one| one.name.as_bytes() == word) {
+        return Hint::found(format!("{} is a procedure", quoted(word)))
+            .rule("a procedure has no value: it is called, in a statement of its own")
+            .right("a variable, or another name for one of the two");
+    }
+    let found = Hint::found(format!("{} is not declared", quoted(word))).rule(ONCE);
     if let Some(spaced) = spaced(&names, word) {
         return found.right(format!("`{spaced}`: a hyphen before a letter or a digit belongs to the name"));
     }
-    match nearest(&names, word) {
+    match nearest(names.declared.iter().map(|one| one.name.as_str()), word) {
         Some(name) => found.right(format!("`{name}`, perhaps, which is declared")),
-        None => found,
+        None => found.right(DECLARE),
     }
 }
 
@@ -27,10 +36,10 @@ fn spaced(names: &Names, word: &[u8]) -> Option<String> {
     names.class(left.as_bytes()).map(|_| format!("{left} - {right}"))
 }
 
-/// The first declared name with the fewest changed letters, if those are few.
-fn nearest<'a>(names: &'a Names, word: &[u8]) -> Option<&'a str> {
+/// The first of the names with the fewest changed letters, if those are few.
+pub fn nearest<'a>(names: impl Iterator<Item = &'a str>, word: &[u8]) -> Option<&'a str> {
     let changes = |name: &str| changes(&name.to_ascii_lowercase().into_bytes(), &word.to_ascii_lowercase());
-    let near = names.declared.iter().map(|one| (changes(&one.name), one.name.as_str()));
+    let near = names.map(|name| (changes(name), name));
     near.filter(|(changes, _)| changes * 3 <= word.len()).min_by_key(|(changes, _)| *changes).map(|(_, name)| name)
 }
 

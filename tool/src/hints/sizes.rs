@@ -4,6 +4,8 @@ use super::{quoted, Around, Hint};
 use crate::names::{Class, Names};
 
 const STATEMENTS: usize = 255;
+const WRITTEN: &str = "a program has at most 255 statements";
+const EXPANDED: &str = "a program has at most 255 statements, those that its calls stand for among them";
 
 pub fn hint(source: &[u8], around: &Around) -> Hint {
     let names = Names::of(source);
@@ -19,10 +21,12 @@ pub fn hint(source: &[u8], around: &Around) -> Hint {
         return Hint::found("part 1,025")
             .rule("all expressions together have at most 1,024 parts: numbers, names, operators, `int`");
     }
-    if statements(source, around.at) > STATEMENTS {
-        return Hint::found("statement 256").rule("a program has at most 255 statements");
+    let calls = has_calls(source, &names, around.at);
+    if around.word != b"parallel" || statements(source, &names, around.at) > STATEMENTS {
+        return Hint::found("statement 256").rule(if calls { EXPANDED } else { WRITTEN });
     }
-    Hint::found("more than 8 activities")
+    let found = if calls { "more than 8 activities, or statement 256" } else { "more than 8 activities" };
+    Hint::found(found)
         .rule("at most 8 activities run at once; the branches of a `parallel` are added up")
         .right("several changes in one branch, one after another")
 }
@@ -50,7 +54,17 @@ fn begins_statement(around: &Around) -> bool {
     }
 }
 
-/// How many statements begin up to this place.
-fn statements(source: &[u8], place: usize) -> usize {
-    Around::all(source).take_while(|around| around.at <= place).filter(begins_statement).count()
+/// The words of the program's own list up to this place.
+fn own<'a>(source: &'a [u8], names: &Names, place: usize) -> impl Iterator<Item = Around<'a>> {
+    let first = names.statements;
+    Around::all(source).filter(move |around| (first..=place).contains(&around.at))
+}
+
+/// How many statements begin up to this place, calls aside.
+fn statements(source: &[u8], names: &Names, place: usize) -> usize {
+    own(source, names, place).filter(begins_statement).count()
+}
+
+fn has_calls(source: &[u8], names: &Names, place: usize) -> bool {
+    own(source, names, place).any(|around| around.is_call())
 }

@@ -26,7 +26,7 @@ pub fn examples() -> Vec<String> {
     let names = entries.map(|entry| entry.unwrap().file_name().into_string().unwrap());
     let mut names: Vec<String> = names.filter_map(|name| name.strip_suffix(".csml").map(String::from)).collect();
     names.sort();
-    assert!(names.len() >= 7);
+    assert!(names.len() >= 10);
     names
 }
 
@@ -116,9 +116,12 @@ pub fn yardstick(arguments: &[&str], input: &[u8]) -> Vec<u8> {
     fed(command, input).stdout
 }
 
-/// The sources of generated records, good and damaged.
-pub fn generated(seed: u32, count: u32) -> Vec<Vec<u8>> {
-    let records = yardstick(&["gen", &seed.to_string(), &count.to_string()], b"");
+/// The streams of the yardstick: without procedures, and with them.
+pub const STREAMS: [&str; 2] = ["gen", "gen-procedures"];
+
+/// The sources of records of a stream, good and damaged.
+pub fn generated(stream: &str, seed: u32, count: u32) -> Vec<Vec<u8>> {
+    let records = yardstick(&[stream, &seed.to_string(), &count.to_string()], b"");
     let mut rest = &records[..];
     let mut sources = Vec::new();
     while !rest.is_empty() {

@@ -18,7 +18,12 @@ const BYTES: &[u8] = b" \t\n\r\x0b\x0c\0\x7f\xff_-.HLh:=|!<>&+*/%();,[]09aZ~$";
 
 /// The text of a damaged program.
 pub fn source(random: &mut Random) -> Vec<u8> {
-    let mut words = program::words(random);
+    let words = program::words(random);
+    damaged(random, words)
+}
+
+/// The text of these words, damaged.
+pub fn damaged(random: &mut Random, mut words: Vec<String>) -> Vec<u8> {
     if random.one_in(4) {
         let mut text = join(random, &words);
         for _ in 0..random.between(1, 3) {

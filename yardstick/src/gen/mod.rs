@@ -1,8 +1,11 @@
-//! Generated records: good programs of every shape, damaged ones, faulty ones, and each size at its limit and one past it.
+//! Generated records: good programs of every shape, damaged ones, faulty ones, and each size at its limit and one past it;
+//! without procedures or, as a stream of their own, with them.
 
 mod damage;
 mod edges;
+mod expansions;
 mod faults;
+mod procedures;
 mod program;
 mod random;
 
@@ -18,6 +21,17 @@ const FULL_BUFFER: u64 = 67 * BLOCK as u64;
 pub fn records(seed: u64) -> impl Iterator<Item = Record> {
     let mut random = Random::new(seed);
     std::iter::repeat_with(move || record(&mut random))
+}
+
+/// Endless records of programs with procedures; the same seed gives the same ones.
+pub fn records_with_procedures(seed: u64) -> impl Iterator<Item = Record> {
+    let mut random = Random::new(seed);
+    std::iter::repeat_with(move || match random.below(20) {
+        0..=6 => plain(procedures::good(&mut random)),
+        7..=9 => plain(procedures::damaged(&mut random)),
+        10..=15 => plain(procedures::faulty(&mut random)),
+        _ => plain(expansions::source(&mut random)),
+    })
 }
 
 fn record(random: &mut Random) -> Record {

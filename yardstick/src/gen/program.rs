@@ -1,4 +1,5 @@
-//! Good programs: grammatical, with known names and right kinds; a few of them pass a size or the room.
+//! Good programs, without procedures or with some: grammatical, with known names and right kinds; a few of them pass a size
+//! or the room.
 
 use super::random::Random;
 
@@ -10,8 +11,20 @@ const NAMES: [&str; 32] = [
     "n-1-2", "t0", "Z_-9", "trueish", "in", "integers",
 ];
 
-/// The words of a random program.
+/// Formals' names: no variable's, so that they clash with nothing.
+const FORMALS: [&str; 8] = ["a", "b", "exp", "on-off", "f9", "to", "from", "kk"];
+
+/// The words of a random program without procedures.
 pub fn words(random: &mut Random) -> Vec<String> {
+    written(random, false)
+}
+
+/// The words of a random program with procedures.
+pub fn words_with_procedures(random: &mut Random) -> Vec<String> {
+    written(random, true)
+}
+
+fn written(random: &mut Random, with_procedures: bool) -> Vec<String> {
     let mut writer = Writer {
         budget: random.of(&[1, 3, 6, 10, 15, 20, 30, 45, 60]),
         random,
@@ -20,11 +33,40 @@ pub fn words(random: &mut Random) -> Vec<String> {
         inputs: Vec::new(),
         booleans: Vec::new(),
         integers: Vec::new(),
+        numbers: Vec::new(),
+        procedures: Vec::new(),
+        with_procedures,
         loops: 0,
         breakable: 0,
     };
     writer.program();
     writer.words
+}
+
+/// What a body does with a formal, so what an actual may be.
+#[derive(Clone, Copy, PartialEq, Eq)]
+enum Formal {
+    /// Read as a boolean, or as an integer.
+    Truth,
+    Number,
+    /// Raised, lowered, inverted and read: a name or a bit.
+    Boolean,
+    /// Assigned, indexed and read: an integer's name, of at least this width.
+    Integer(usize),
+    /// Never used.
+    Dropped,
+}
+
+/// A procedure that may be called.
+#[derive(Clone)]
+struct Signature {
+    name: &'static str,
+    formals: Vec<Formal>,
+    /// The activities that it takes at most.
+    activities: usize,
+    /// Whether it may be called only inside a loop, a switch or a parallel, since it may jump out of it.
+    exits: bool,
+    breaks: bool,
 }
 
 struct Writer<'a> {
@@ -37,6 +79,10 @@ struct Writer<'a> {
     booleans: Vec<&'static str>,
     /// Integers with their widths.
     integers: Vec<(&'static str, usize)>,
+    /// Formals that are read as integers.
+    numbers: Vec<&'static str>,
+    procedures: Vec<Signature>,
+    with_procedures: bool,
     /// Statements that may still be written before lists stop growing.
     budget: usize,
     /// Loops, and switches and parallels, that are open.
@@ -54,6 +100,9 @@ impl Writer<'_> {
         self.put(&format!("program {name} ;"));
         for _ in 0..self.random.of(&[0, 2, 3, 4, 4, 5, 6]) {
             self.declaration();
+            if self.with_procedures && self.random.one_in(2) {
+                self.procedure();
+            }
         }
         // Most programs are one loop for ever, as real ones are.
         if self.random.one_in(3) {
@@ -80,9 +129,13 @@ impl Writer<'_> {
         self.put(";");
     }
 
-    fn item(&mut self, class: &str) {
+    fn free_name(&mut self) -> &'static str {
         let chosen = self.random.below(self.free.len());
-        let name = self.free.swap_remove(chosen);
+        self.free.swap_remove(chosen)
+    }
+
+    fn item(&mut self, class: &str) {
+        let name = self.free_name();
         self.put(name);
         if class == "integer" {
             let width = if self.random.one_in(4) { self.random.between(1, 16) } else { self.random.between(1, 3) };
@@ -122,6 +175,9 @@ impl Writer<'_> {
 
     fn statement(&mut self, activities: usize, levels: usize) {
         self.budget = self.budget.saturating_sub(1);
+        if !self.procedures.is_empty() && self.random.one_in(3) && self.call(activities) {
+            return;
+        }
         if self.budget == 0 || levels > 9 || !self.random.one_in(3) {
             return self.simple();
         }
@@ -247,6 +303,120 @@ impl Writer<'_> {
     }
 }
 
+/// Procedures and their calls.
+impl Writer<'_> {
+    fn procedure(&mut self) {
+        if self.free.len() < 8 {
+            return;
+        }
+        let signature = self.signature();
+        let names = self.head(&signature);
+        // The formals are known in the body alone.
+        let known = (self.inputs.clone(), self.booleans.clone(), self.integers.clone());
+        for (&name, &formal) in names.iter().zip(&signature.formals) {
+            match formal {
+                Formal::Truth => self.inputs.push(name),
+                Formal::Number => self.numbers.push(name),
+                Formal::Boolean => self.booleans.push(name),
+                Formal::Integer(width) => self.integers.push((name, width)),
+                Formal::Dropped => {}
+            }
+        }
+        let budget = std::mem::replace(&mut self.budget, self.random.of(&[1, 1, 2, 3, 5]));
+        (self.loops, self.breakable) = (usize::from(signature.exits), usize::from(signature.breaks));
+        self.list(signature.activities, 5);
+        (self.loops, self.breakable) = (0, 0);
+        self.budget = budget;
+        (self.inputs, self.booleans, self.integers) = known;
+        self.numbers.clear();
+        let end = self.random.of(&["endproc", "endproc ;"]);
+        self.put(end);
+        self.procedures.push(signature);
+    }
+
+    fn signature(&mut self) -> Signature {
+        let count = self.random.of(&[0, 0, 1, 1, 1, 2, 2, 3]);
+        let formals = (0..count).map(|_| {
+            let width = self.random.between(1, 3);
+            self.random.of(&[
+                Formal::Truth,
+                Formal::Truth,
+                Formal::Number,
+                Formal::Boolean,
+                Formal::Integer(width),
+                Formal::Dropped,
+            ])
+        });
+        let formals = formals.collect();
+        Signature {
+            formals,
+            name: self.free_name(),
+            activities: self.random.of(&[1, 1, 2, 3]),
+            exits: self.random.one_in(6),
+            breaks: self.random.one_in(8),
+        }
+    }
+
+    /// Writes a procedure's head, and says how its formals are called.
+    fn head(&mut self, signature: &Signature) -> Vec<&'static str> {
+        self.put(&format!("procedure {} (", signature.name));
+        let first = self.random.below(FORMALS.len());
+        let names: Vec<&str> = FORMALS.into_iter().cycle().skip(first).take(signature.formals.len()).collect();
+        self.put(&names.join(" , "));
+        self.put(")");
+        names
+    }
+
+    /// A call of some procedure that may be called here, if the one that chance picks may.
+    fn call(&mut self, activities: usize) -> bool {
+        let chosen = self.random.below(self.procedures.len());
+        let signature = self.procedures[chosen].clone();
+        let jumps = signature.exits && self.loops == 0 || signature.breaks && self.breakable == 0;
+        let width = self.integers.iter().map(|(_, width)| *width).max().unwrap_or(0);
+        let fits = |formal: &Formal| match formal {
+            Formal::Boolean => !self.booleans.is_empty(),
+            Formal::Integer(least) => width >= *least,
+            _ => true,
+        };
+        if jumps || signature.activities > activities || !signature.formals.iter().all(fits) {
+            return false;
+        }
+        self.put(&format!("{} (", signature.name));
+        for (at, formal) in signature.formals.into_iter().enumerate() {
+            if at > 0 {
+                self.put(",");
+            }
+            self.actual(formal);
+        }
+        self.put(")");
+        true
+    }
+
+    fn actual(&mut self, formal: Formal) {
+        match formal {
+            Formal::Truth => self.comparison(2),
+            Formal::Number => self.sum(2),
+            Formal::Boolean => match self.bit() {
+                Some((name, bit)) if self.random.one_in(3) => self.put(&format!("{name} [ {bit} ]")),
+                _ => {
+                    let name = self.random.of(&self.booleans);
+                    self.put(name);
+                }
+            },
+            Formal::Integer(least) => {
+                let wide: Vec<_> = self.integers.iter().filter(|(_, width)| *width >= least).copied().collect();
+                let (name, _) = self.random.of(&wide);
+                self.put(name);
+            }
+            // What is dropped is read for words and grammar only.
+            Formal::Dropped => {
+                let actual = self.random.of(&["1", "no-name", "! 5 + no-name [ 9 ]", "( 1 + true )", "int ( 3 )"]);
+                self.put(actual);
+            }
+        }
+    }
+}
+
 /// Expressions, written as the grammar binds them; `depth` is how many more operators may nest.
 impl Writer<'_> {
     /// A boolean: integers or booleans compared, or what binds more tightly.
@@ -326,6 +496,10 @@ impl Writer<'_> {
             }
             3..=5 if !self.integers.is_empty() => {
                 let (name, _) = self.random.of(&self.integers);
+                self.put(name);
+            }
+            _ if !self.numbers.is_empty() && self.random.one_in(2) => {
+                let name = self.random.of(&self.numbers);
                 self.put(name);
             }
             _ => {

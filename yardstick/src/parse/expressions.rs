@@ -1,8 +1,9 @@
 //! Expressions, by how tightly their operators bind.
 
 use super::{Parsed, Parser};
-use crate::tree::{Expr, ExprKind, Link, Operator};
+use crate::tree::Operator;
 use crate::words::Kind;
+use crate::written::{Expr, ExprKind, Link, Need};
 
 /// How tightly the binary operators bind: "lowest to highest, `== != > <`; `&`; `|`; `!`; `+ -`; `* / %`."
 #[derive(Clone, Copy, PartialEq, Eq)]
@@ -32,7 +33,7 @@ impl Parser<'_> {
         if links.is_empty() {
             return Ok(first);
         }
-        Ok(Expr { place: first.place, kind: ExprKind::Row(Box::new(first), links) })
+        Ok(Expr { place: first.place, parentheses: 0, kind: ExprKind::Row(Box::new(first), links) })
     }
 
     /// An operand of the operators of one binding: what binds more tightly.
@@ -55,7 +56,7 @@ impl Parser<'_> {
         self.open(Kind::Not)?;
         let operand = self.negation()?;
         self.levels -= 1;
-        Ok(Expr { place, kind: ExprKind::Not(Box::new(operand)) })
+        Ok(Expr { place, parentheses: 0, kind: ExprKind::Not(Box::new(operand)) })
     }
 
     fn primary(&mut self) -> Parsed<Expr> {
@@ -71,21 +72,26 @@ impl Parser<'_> {
             Some(Kind::Open) => return self.in_parentheses(),
             _ => return self.fail(),
         };
-        Ok(Expr { place, kind })
+        Ok(Expr { place, parentheses: 0, kind })
     }
 
+    /// A formal's bit in an actual asks nothing here: the expansion may drop it.
     fn name_or_bit(&mut self) -> Parsed<ExprKind> {
-        let variable = self.variable()?;
-        if self.peek() == Some(Kind::OpenIndex) {
-            return Ok(ExprKind::Bit(variable, u32::from(self.index()?)));
+        let name = self.used()?;
+        if self.peek() != Some(Kind::OpenIndex) {
+            return Ok(ExprKind::Name(name));
         }
-        Ok(ExprKind::Name(variable))
+        if !self.in_actual {
+            self.needs(name, Need::Name);
+        }
+        Ok(ExprKind::Bit(name, u32::from(self.index()?)))
     }
 
     fn in_parentheses(&mut self) -> Parsed<Expr> {
         self.open(Kind::Open)?;
-        let inner = self.expression()?;
+        let mut inner = self.expression()?;
         self.close(Kind::Close)?;
+        inner.parentheses += 1;
         Ok(inner)
     }
 }

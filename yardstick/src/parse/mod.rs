@@ -1,7 +1,7 @@
-//! The grammar: words to tree, or refusal 5 at the first word that no program has there.
+//! The grammar: words to the written program, or refusal 5 at the first word that no program has there.
 //!
-//! Every declaration stands before every statement, so names are looked up as they are read; what is wrong with
-//! them is for `check` to say.
+//! A body may use what is declared after it, so names are only numbered as they are read; what is wrong with them is for
+//! `check` to say.
 
 mod expressions;
 mod statements;
@@ -9,24 +9,30 @@ mod statements;
 use std::collections::HashMap;
 
 use crate::refusal::Refusal;
-use crate::tree::{Class, Declaration, Point, Program, Variable};
+use crate::tree::{Class, Declaration, Variable};
 use crate::words::{Kind, Word};
+use crate::written::{Meaning, Name, Need, Procedure, Program, Symbol};
 
 /// "Levels 32 (each open compound statement, each open `(` of any use, and each `!` with its operand is one level)."
-const LEVELS: usize = 32;
+pub const LEVELS: usize = 32;
 
 type Parsed<T> = Result<T, Refusal>;
 
 /// Reads the words of `source` as a program.
 pub fn parse(source: &[u8], words: &[Word]) -> Parsed<Program> {
-    let mut parser = Parser {
+    let parser = Parser {
         source,
         words,
         at: 0,
         levels: 0,
-        points: 0,
-        names: HashMap::new(),
+        symbols: HashMap::new(),
+        meanings: Vec::new(),
+        again: Vec::new(),
         declarations: Vec::new(),
+        procedures: Vec::new(),
+        formals: HashMap::new(),
+        needs: Vec::new(),
+        in_actual: false,
         inputs: 0,
         bits: 0,
     };
@@ -40,10 +46,16 @@ struct Parser<'a> {
     at: usize,
     /// How many levels are open.
     levels: usize,
-    /// How many statements and case tests have been met.
-    points: Point,
-    names: HashMap<&'a [u8], Variable>,
+    symbols: HashMap<&'a [u8], Symbol>,
+    meanings: Vec<Meaning>,
+    again: Vec<usize>,
     declarations: Vec<Declaration>,
+    procedures: Vec<Procedure>,
+    /// The formals of the procedure that is being read, and what its body asks of each so far.
+    formals: HashMap<&'a [u8], usize>,
+    needs: Vec<Need>,
+    /// Whether an actual is being read.
+    in_actual: bool,
     /// How many inputs have been declared.
     inputs: u32,
     /// How many non-input bits have been declared.
@@ -121,15 +133,29 @@ impl<'a> Parser<'a> {
         Ok(number)
     }
 
-    /// A name that is used, and what it stands for.
-    fn variable(&mut self) -> Parsed<Variable> {
-        let name = self.name()?;
-        Ok(self.names.get(name).copied().unwrap_or(Variable::Unknown))
+    fn symbol(&mut self, name: &'a [u8]) -> Symbol {
+        let fresh = self.meanings.len();
+        let symbol = *self.symbols.entry(name).or_insert(fresh);
+        if symbol == fresh {
+            self.meanings.push(Meaning::Nothing);
+        }
+        symbol
     }
 
-    fn point(&mut self) -> Point {
-        self.points += 1;
-        self.points - 1
+    /// A name that is used: a formal of this procedure before anything else.
+    fn used(&mut self) -> Parsed<Name> {
+        let name = self.name()?;
+        match self.formals.get(name) {
+            Some(&formal) => Ok(Name::Formal(formal)),
+            None => Ok(Name::Symbol(self.symbol(name))),
+        }
+    }
+
+    /// Notes what the body asks of a formal.
+    fn needs(&mut self, name: Name, need: Need) {
+        if let Name::Formal(formal) = name {
+            self.needs[formal] = need.max(self.needs[formal]);
+        }
     }
 }
 
@@ -137,20 +163,61 @@ impl<'a> Parser<'a> {
 impl<'a> Parser<'a> {
     /// "`program name;`, then zero or more declarations each closed by `;`, then a statement list, then `endprog`;
     /// only blanks may follow."
-    fn program(&mut self) -> Parsed<Program> {
+    fn program(mut self) -> Parsed<Program> {
         self.expect(Kind::Program)?;
         let name = text(self.name()?);
         self.expect(Kind::Semicolon)?;
-        while self.declaration()? {
-            self.expect(Kind::Semicolon)?;
+        loop {
+            if self.peek() == Some(Kind::Procedure) {
+                self.procedure()?;
+            } else if self.declaration()? {
+                self.expect(Kind::Semicolon)?;
+            } else {
+                break;
+            }
         }
-        let body = self.list(0)?;
+        let body = self.list()?;
         self.expect(Kind::EndProg)?;
         if self.at < self.words.len() {
             return self.fail();
         }
-        let declarations = std::mem::take(&mut self.declarations);
-        Ok(Program { name, declarations, body, end: self.points })
+        let Parser { declarations, procedures, meanings, again, .. } = self;
+        Ok(Program { name, declarations, procedures, meanings, again, body })
+    }
+
+    /// "`procedure name(formals, if any) .. endproc` among the declarations (its `;` may be missing, as 001 prints it)."
+    fn procedure(&mut self) -> Parsed<()> {
+        self.expect(Kind::Procedure)?;
+        let place = self.place();
+        let name = self.name()?;
+        self.declare(name, place, Meaning::Procedure(self.procedures.len()));
+        self.open(Kind::Open)?;
+        if self.peek() != Some(Kind::Close) {
+            self.formal()?;
+            while self.take(Kind::Comma) {
+                self.formal()?;
+            }
+        }
+        self.close(Kind::Close)?;
+        let body = self.list()?;
+        self.expect(Kind::EndProc)?;
+        let _ = self.take(Kind::Semicolon);
+        self.formals.clear();
+        self.procedures.push(Procedure { formals: std::mem::take(&mut self.needs), body });
+        Ok(())
+    }
+
+    /// "A formal that repeats a declared name is 6 at the formal": one declared before it, its own procedure's, or one of
+    /// its own list.
+    fn formal(&mut self) -> Parsed<()> {
+        let place = self.place();
+        let name = self.name()?;
+        let declared = self.symbols.get(name).is_some_and(|&symbol| self.meanings[symbol] != Meaning::Nothing);
+        if declared || self.formals.insert(name, self.needs.len()).is_some() {
+            self.again.push(place);
+        }
+        self.needs.push(Need::Anything);
+        Ok(())
     }
 
     /// "Declarations are `input`, `output`, `internal` and `integer`, with comma lists": one of them, if one is next.
@@ -176,7 +243,7 @@ impl<'a> Parser<'a> {
         let name = self.name()?;
         self.ending();
         self.inputs += 1;
-        self.declare(name, place, Class::Input, Variable::Input(self.inputs - 1), 0);
+        self.declare_variable(name, place, Class::Input, Variable::Input(self.inputs - 1), 0);
         Ok(())
     }
 
@@ -195,7 +262,7 @@ impl<'a> Parser<'a> {
         let initial = self.take(Kind::Equals) && self.truth()?;
         let variable = Variable::Boolean(self.bits);
         self.bits += 1;
-        self.declare(name, place, class, variable, u16::from(initial));
+        self.declare_variable(name, place, class, variable, u16::from(initial));
         Ok(())
     }
 
@@ -209,7 +276,7 @@ impl<'a> Parser<'a> {
         let initial = if self.take(Kind::Equals) { self.number()? } else { 0 };
         let variable = Variable::Integer { low: self.bits, width: u32::from(width) };
         self.bits += u32::from(width);
-        self.declare(name, place, Class::Integer { width, width_place }, variable, initial);
+        self.declare_variable(name, place, Class::Integer { width, width_place }, variable, initial);
         Ok(())
     }
 
@@ -226,9 +293,17 @@ impl<'a> Parser<'a> {
         Ok(false)
     }
 
-    fn declare(&mut self, name: &'a [u8], place: usize, class: Class, variable: Variable, initial: u16) {
-        let again = self.names.insert(name, variable).is_some();
-        self.declarations.push(Declaration { name: text(name), place, again, class, variable, initial });
+    fn declare_variable(&mut self, name: &'a [u8], place: usize, class: Class, variable: Variable, initial: u16) {
+        self.declare(name, place, Meaning::Variable(variable));
+        self.declarations.push(Declaration { name: text(name), place, class, variable, initial });
+    }
+
+    fn declare(&mut self, name: &'a [u8], place: usize, meaning: Meaning) {
+        let symbol = self.symbol(name);
+        if self.meanings[symbol] != Meaning::Nothing {
+            self.again.push(place);
+        }
+        self.meanings[symbol] = meaning;
     }
 }
 

@@ -1,29 +1,28 @@
 //! Statements and their lists.
 
 use super::{Parsed, Parser};
-use crate::tree::{Branch, Case, Change, List, Statement, StatementKind, Target};
+use crate::tree::Change;
 use crate::words::Kind;
+use crate::written::{Case, List, Need, Statement, StatementKind, Target};
 
-/// Statements. `activity` is the first activity that the statement or list may use.
+/// Statements.
 impl Parser<'_> {
     /// "One or more statements parted by `;`, with one spare `;` allowed at its end (house)."
-    pub(super) fn list(&mut self, activity: usize) -> Parsed<List> {
-        let mut list = vec![self.statement(activity)?];
+    pub(super) fn list(&mut self) -> Parsed<List> {
+        let mut list = vec![self.statement()?];
         while self.take(Kind::Semicolon) && self.peek().is_some_and(starts_statement) {
-            list.push(self.statement(activity)?);
+            list.push(self.statement()?);
         }
         Ok(list)
     }
 
-    fn statement(&mut self, activity: usize) -> Parsed<Statement> {
+    fn statement(&mut self) -> Parsed<Statement> {
         let place = self.place();
-        let point = self.point();
-        let kind = self.statement_kind(activity)?;
-        let end = inner_activities_end(&kind).max(activity + 1);
-        Ok(Statement { place, points: point..self.points, activities: activity..end, kind })
+        let kind = self.statement_kind()?;
+        Ok(Statement { place, kind })
     }
 
-    fn statement_kind(&mut self, activity: usize) -> Parsed<StatementKind> {
+    fn statement_kind(&mut self) -> Parsed<StatementKind> {
         match self.peek() {
             Some(Kind::Skip) => self.single(StatementKind::Skip),
             Some(Kind::Exit) => self.single(StatementKind::Exit),
@@ -32,12 +31,12 @@ impl Parser<'_> {
             Some(Kind::Raise) => self.change(Change::Raise),
             Some(Kind::Lower) => self.change(Change::Lower),
             Some(Kind::Invert) => self.change(Change::Invert),
-            Some(Kind::Name) => self.assignment(),
-            Some(Kind::If) => self.if_statement(activity),
-            Some(Kind::While) => self.while_statement(activity),
-            Some(Kind::Loop) => self.loop_statement(activity),
-            Some(Kind::Switch) => self.switch(activity),
-            Some(Kind::Parallel) => self.parallel(activity),
+            Some(Kind::Name) => self.assignment_or_call(),
+            Some(Kind::If) => self.if_statement(),
+            Some(Kind::While) => self.while_statement(),
+            Some(Kind::Loop) => self.loop_statement(),
+            Some(Kind::Switch) => self.switch(),
+            Some(Kind::Parallel) => self.parallel(),
             _ => self.fail(),
         }
     }
@@ -59,93 +58,108 @@ impl Parser<'_> {
         self.at += 1;
         self.open(Kind::Open)?;
         let place = self.place();
-        let variable = self.variable()?;
+        let name = self.used()?;
         let bit = if self.peek() == Some(Kind::OpenIndex) { Some(u32::from(self.index()?)) } else { None };
+        self.needs(name, if bit.is_some() { Need::Name } else { Need::NameOrBit });
         self.close(Kind::Close)?;
-        Ok(StatementKind::Change(change, Target { place, variable, bit }))
+        Ok(StatementKind::Change(change, Target { place, name, bit }))
+    }
+
+    fn assignment_or_call(&mut self) -> Parsed<StatementKind> {
+        match self.words.get(self.at + 1) {
+            Some(word) if word.kind == Kind::Open => self.call(),
+            _ => self.assignment(),
+        }
     }
 
     /// "`:=` to a plain name."
     fn assignment(&mut self) -> Parsed<StatementKind> {
-        let variable = self.variable()?;
+        let name = self.used()?;
         self.expect(Kind::Assign)?;
-        Ok(StatementKind::Assign(variable, self.expression()?))
+        self.needs(name, Need::Name);
+        Ok(StatementKind::Assign(name, self.expression()?))
     }
 
-    fn if_statement(&mut self, activity: usize) -> Parsed<StatementKind> {
+    /// 000: "A procedure call of the form: identifier (expression list)." What is called is never a formal.
+    fn call(&mut self) -> Parsed<StatementKind> {
+        let name = self.name()?;
+        let procedure = self.symbol(name);
+        self.open(Kind::Open)?;
+        self.in_actual = true;
+        let mut actuals = Vec::new();
+        if self.peek() != Some(Kind::Close) {
+            actuals.push(self.expression()?);
+            while self.take(Kind::Comma) {
+                actuals.push(self.expression()?);
+            }
+        }
+        self.in_actual = false;
+        self.close(Kind::Close)?;
+        Ok(StatementKind::Call { procedure, actuals })
+    }
+
+    fn if_statement(&mut self) -> Parsed<StatementKind> {
         self.open(Kind::If)?;
         let test = self.expression()?;
         self.expect(Kind::Then)?;
-        let then = self.list(activity)?;
-        let otherwise = if self.take(Kind::Else) { self.list(activity)? } else { List::new() };
+        let then = self.list()?;
+        let otherwise = if self.take(Kind::Else) { self.list()? } else { List::new() };
         self.close(Kind::EndIf)?;
         Ok(StatementKind::If { test, then, otherwise })
     }
 
     /// `while E do loop .. endloop` is one statement and one level, open from the word `while`.
-    fn while_statement(&mut self, activity: usize) -> Parsed<StatementKind> {
+    fn while_statement(&mut self) -> Parsed<StatementKind> {
         self.open(Kind::While)?;
         let test = self.expression()?;
         self.expect(Kind::Do)?;
         self.expect(Kind::Loop)?;
-        let body = self.list(activity)?;
+        let body = self.list()?;
         self.close(Kind::EndLoop)?;
         Ok(StatementKind::Loop { test: Some(test), body })
     }
 
-    fn loop_statement(&mut self, activity: usize) -> Parsed<StatementKind> {
+    fn loop_statement(&mut self) -> Parsed<StatementKind> {
         self.open(Kind::Loop)?;
-        let body = self.list(activity)?;
+        let body = self.list()?;
         self.close(Kind::EndLoop)?;
         Ok(StatementKind::Loop { test: None, body })
     }
 
     /// "`switch` with one or more cases and a last, required `default`, a list each."
-    fn switch(&mut self, activity: usize) -> Parsed<StatementKind> {
+    fn switch(&mut self) -> Parsed<StatementKind> {
         self.open(Kind::Switch)?;
-        let mut cases = vec![self.case(activity)?];
+        let mut cases = vec![self.case()?];
         while self.peek() == Some(Kind::Case) {
-            cases.push(self.case(activity)?);
+            cases.push(self.case()?);
         }
         self.expect(Kind::Default)?;
         self.expect(Kind::Colon)?;
-        let default = self.list(activity)?;
+        let default = self.list()?;
         self.close(Kind::EndSwitch)?;
         Ok(StatementKind::Switch { cases, default })
     }
 
-    fn case(&mut self, activity: usize) -> Parsed<Case> {
+    fn case(&mut self) -> Parsed<Case> {
         let place = self.place();
         self.expect(Kind::Case)?;
-        let point = self.point();
         let test = self.expression()?;
         self.expect(Kind::Colon)?;
-        let body = self.list(activity)?;
-        Ok(Case { place, points: point..self.points, test, body })
+        let body = self.list()?;
+        Ok(Case { place, test, body })
     }
 
-    /// "`parallel` with two or more branches": each has activities of its own.
-    fn parallel(&mut self, activity: usize) -> Parsed<StatementKind> {
+    /// "`parallel` with two or more branches."
+    fn parallel(&mut self) -> Parsed<StatementKind> {
         self.open(Kind::Parallel)?;
-        let first = self.branch(activity)?;
-        let mut free = first.activities.end;
-        let mut branches = vec![first];
+        let mut branches = vec![self.list()?];
         self.expect(Kind::Bars)?;
-        loop {
-            let branch = self.branch(free)?;
-            free = branch.activities.end;
-            branches.push(branch);
-            if !self.take(Kind::Bars) {
-                break;
-            }
+        branches.push(self.list()?);
+        while self.take(Kind::Bars) {
+            branches.push(self.list()?);
         }
         self.close(Kind::EndParallel)?;
         Ok(StatementKind::Parallel(branches))
-    }
-
-    fn branch(&mut self, activity: usize) -> Parsed<Branch> {
-        let body = self.list(activity)?;
-        Ok(Branch { activities: activity..activities_end(&body), body })
     }
 }
 
@@ -166,22 +180,4 @@ fn starts_statement(kind: Kind) -> bool {
             | Kind::Switch
             | Kind::Parallel
     )
-}
-
-/// "A parallel sums its branches, other statements and lists take the largest part": where the inner parts end.
-fn inner_activities_end(kind: &StatementKind) -> usize {
-    match kind {
-        StatementKind::If { then, otherwise, .. } => activities_end(then).max(activities_end(otherwise)),
-        StatementKind::Loop { body, .. } => activities_end(body),
-        StatementKind::Switch { cases, default } => {
-            cases.iter().map(|case| activities_end(&case.body)).fold(activities_end(default), usize::max)
-        }
-        StatementKind::Parallel(branches) => branches.last().map_or(0, |branch| branch.activities.end),
-        _ => 0,
-    }
-}
-
-/// "Other statements and lists take the largest part."
-fn activities_end(list: &List) -> usize {
-    list.iter().map(|statement| statement.activities.end).max().unwrap_or(0)
 }

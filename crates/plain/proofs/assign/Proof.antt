@@ -4,26 +4,35 @@ use mathlib.Core.Path.{refl, _∙_}
 use native.Mathlib.Omega.{arith}
 use Rattle.parts.specs.Beside.{beside}
 use Rattle.parts.proofs.Beside.{same-size}
-use Rattle.plain.proofs.Laws.{plain-assign}
+use Rattle.plain.proofs.Laws.{summed, plain-assign}
 use borrow.Author.Needs.{needs}
 use Rattle.plain.proofs.assign.Statement.{statement}
 use Rattle.plain.proofs.assign.Tie as tie
 
+told-requires : tie.Need-told-requires
+told-requires c κs = search needs
+
 begun-requires : tie.Need-begun-requires
 begun-requires c κs = search needs
 
+meant-requires : tie.Need-meant-requires
+meant-requires c κs = search needs
+
+name-of-requires : tie.Need-name-of-requires
+name-of-requires c κs = search needs
+
 word-from-requires : tie.Need-word-from-requires
 word-from-requires c κs = search needs
-
-word-from-requires-2 : tie.Need-word-from-requires-2
-word-from-requires-2 c κs = search needs
 
 expr-requires : tie.Need-expr-requires
 expr-requires c κs = search needs
 
 find-requires : tie.Need-find-requires
 unfolding beside
-find-requires c κs = omega (arith, c .before .before .before .before .before .before .before .before .before .before .before .before .pre .listed, same-size (c .before .before .before .before .expr .ensures .kept))
+find-requires c κs =
+    let k₁ = c .before .before .before .before in
+    let k₂ = k₁ .before .before .before .before .before .before .before .before .before .before .before in
+    omega (arith, k₂ .pre .2 .listed, same-size (k₁ .expr .ensures .kept))
 
 number-of-requires : tie.Need-number-of-requires
 number-of-requires c κs = search needs
@@ -57,17 +66,21 @@ returns c =
     let k₆ = k₅ .before .before .before .before .before in
     let k₇ = k₆ .before .before in
     let k₈ = k₇ .before in
-    let k₉ = k₈ .before .before in
+    let k₉ = k₈ .before in
     let k₁₀ = k₉ .before .before .before in
-    λ l b. plain-assign (k₁₀ .pre .near) (k₉ .begun .ensures) (k₈ .word-from .ensures) refl (k₇ .word-from2 .ensures) (k₆ .expr .ensures) (rw (k₆ .expr .ensures .kept) at (k₅ .find .ensures)) (k₄ .number-of .ensures) (k₃ .width-of .ensures) (k₂ .assigned .ensures) (k₁ .finish .ensures)
+    let k₁₁ = k₁₀ .before in
+    let k₁₂ = k₁₁ .before .before .before in
+    λ l b. plain-assign (k₁₂ .pre .2 .near) (k₁₁ .told .ensures) (k₁₀ .begun .ensures) (k₁₂ .pre .1) (k₉ .meant .result) (k₁₂ .pre .2 .few) refl (k₁₂ .pre .0) (k₉ .meant .ensures) (k₈ .name-of .ensures) (k₇ .word-from .ensures) (summed (k₆ .expr .ensures)) (rw (k₆ .expr .ensures .kept) at (k₅ .find .ensures)) (k₄ .number-of .ensures) (k₃ .width-of .ensures) (k₂ .assigned .ensures) (k₁ .finish .ensures)
 
 pub assign-spec : {M : Type 1} → statement M
 assign-spec =
     tie.close
     (tie.spec
+    told-requires
     begun-requires
+    meant-requires
+    name-of-requires
     word-from-requires
-    word-from-requires-2
     expr-requires
     find-requires
     number-of-requires

@@ -1,7 +1,7 @@
 -- `plain::test` meets its contract.
 -- Assumes nothing.
 use mathlib.Core.Path.{refl}
-use Rattle.plain.proofs.Laws.{test-came}
+use Rattle.plain.proofs.Laws.{summed, test-came}
 use borrow.Author.Needs.{needs}
 use Rattle.plain.proofs.test.Statement.{statement}
 use Rattle.plain.proofs.test.Tie as tie
@@ -23,7 +23,7 @@ returns c =
     let k₁ = c .before in
     let k₂ = k₁ .before .before .before .before in
     let k₃ = k₂ .before .before .before .before .before in
-    test-came (k₃ .pre .near) (k₂ .expr .ensures) (k₁ .word-from .ensures) (c .tested .ensures) refl
+    test-came (k₃ .pre .near) (summed (k₂ .expr .ensures)) (k₁ .word-from .ensures) (c .tested .ensures) refl
 
 pub test-spec : {M : Type 1} → statement M
 test-spec =

@@ -3,11 +3,11 @@
 use mathlib.Core.Path.{refl, _∙_, subst}
 use native.Mathlib.Omega.{arith}
 use denote.Ref.{now}
-use borrow.Author.Needs.{needs}
 use Rattle.grammar.specs.Meaning.{Says}
-use Rattle.source.proofs.Entered.{refused-reads}
-use Rattle.source.proofs.Lent.{area-entered, all-long, names-fit, still-zero}
+use Rattle.told_law.proofs.Entered.{refused-reads}
+use Rattle.source.proofs.Lent.{all-long, names-fit}
 use Rattle.source.proofs.Whole.{refused-told, good-told}
+use borrow.Author.Needs.{needs}
 use Rattle.source.proofs.read.Statement.{statement}
 use Rattle.source.proofs.read.Tie as tie
 
@@ -23,23 +23,18 @@ returns c = (refused-reads (now (c .before .before .before .before .before .befo
 enum-told : tie.Need-enum-told
 enum-told c = search needs
 
-clear-requires : tie.Need-clear-requires
-clear-requires c κs = search needs
-
-names-requires : tie.Need-names-requires
-names-requires c κs =
-    let k₁ = c .before .before .before in
+prepare-requires : tie.Need-prepare-requires
+prepare-requires c κs =
+    let k₁ = c .before in
     let k₂ = k₁ .before .before in
-    let k₃ = k₂ .before .before in
-    let k₄ = k₃ .before .before .before in
-    ((subst (Says (now (k₄ .args .s))) (k₂ .enum-told .given .1) (k₃ .check .ensures)) .0, omega (arith, k₁ .clear .ensures .0, k₄ .pre))
+    let k₃ = k₂ .before .before .before in
+    ((subst (Says (now (k₃ .args .s))) (k₁ .enum-told .given .1) (k₂ .check .ensures)) .0, k₃ .pre)
+
+own-requires : tie.Need-own-requires
+own-requires c κs = search needs
 
 body-requires : tie.Need-body-requires
-body-requires c κs =
-    let k₁ = c .before .before .before .before in
-    let k₂ = k₁ .before .before .before .before in
-    let k₃ = k₂ .before .before .before .before .before .before .before in
-    names-fit (omega (arith, k₂ .clear .ensures .0, k₃ .pre)) (k₁ .names .ensures)
+body-requires c κs = let k = c .before .before .before .before .before in names-fit (k .before .before .before .before .before .before .before .pre) (k .prepare .ensures)
 
 least-requires : tie.Need-least-requires
 least-requires c κs = search needs
@@ -54,17 +49,7 @@ enum-known-number-2 : tie.Need-enum-known-number-2
 enum-known-number-2 c = search needs
 
 same-length : tie.Need-same-length
-same-length c =
-    let k₁ = c .before .before .before in
-    let k₂ = k₁ .before in
-    let k₃ = k₂ .before in
-    let k₄ = k₃ .before .before .before .before .before in
-    let k₅ = k₄ .before .before .before .before .before in
-    let k₆ = k₅ .before .before .before .before in
-    let k₇ = k₆ .before .before in
-    let k₈ = k₇ .before .before in
-    let k₉ = k₈ .before .before .before in
-    all-long (k₄ .body .ensures) ∙ k₅ .names .ensures .long ∙ k₆ .clear .ensures .0
+same-length c = search needs
 
 returns-2 : tie.Need-returns-2
 returns-2 c =
@@ -72,34 +57,24 @@ returns-2 c =
     let k₂ = k₁ .before in
     let k₃ = k₂ .before in
     let k₄ = k₃ .before .before .before .before .before in
-    let k₅ = k₄ .before .before .before .before .before in
-    let k₆ = k₅ .before .before .before .before in
+    let k₅ = k₄ .before in
+    let k₆ = k₅ .before .before .before .before .before in
     let k₇ = k₆ .before .before in
     let k₈ = k₇ .before .before in
     let k₉ = k₈ .before .before .before in
-    (refused-told (area-entered (omega (arith, k₆ .clear .ensures .0, k₉ .pre)) (subst (Says (now (k₉ .args .s))) (k₇ .enum-told .given .1) (k₈ .check .ensures)) (k₅ .names .ensures)) (k₄ .body .ensures) (k₁ .settle .result) (k₁ .settle .ensures) (k₃ .least .ensures) (k₂ .least2 .ensures) _ _ (c .before .number2 .given .1), all-long (k₄ .body .ensures) ∙ k₅ .names .ensures .long ∙ k₆ .clear .ensures .0)
+    (refused-told (subst (Says (now (k₉ .args .s))) (k₇ .enum-told .given .1) (k₈ .check .ensures)) (k₆ .prepare .ensures) (k₅ .own .ensures) (k₄ .body .ensures) (k₁ .settle .result) (k₁ .settle .ensures) (k₃ .least .ensures) (k₂ .least2 .ensures) _ _ (c .before .number2 .given .1), all-long (k₄ .body .ensures) ∙ k₆ .prepare .ensures .long)
 
 enum-told-2 : tie.Need-enum-told-2
 enum-told-2 c = search needs
 
-cast-t23 : tie.Need-cast-t23
-cast-t23 c = search needs
+cast-t21 : tie.Need-cast-t21
+cast-t21 c = search needs
 
-cast-t24 : tie.Need-cast-t24
-cast-t24 c = search needs
+cast-t22 : tie.Need-cast-t22
+cast-t22 c = search needs
 
 same-length-2 : tie.Need-same-length-2
-same-length-2 c =
-    let k₁ = c .before .before .before .before in
-    let k₂ = k₁ .before in
-    let k₃ = k₂ .before in
-    let k₄ = k₃ .before .before .before .before .before in
-    let k₅ = k₄ .before .before .before .before .before in
-    let k₆ = k₅ .before .before .before .before in
-    let k₇ = k₆ .before .before in
-    let k₈ = k₇ .before .before in
-    let k₉ = k₈ .before .before .before in
-    all-long (k₄ .body .ensures) ∙ k₅ .names .ensures .long ∙ k₆ .clear .ensures .0
+same-length-2 c = search needs
 
 returns-3 : tie.Need-returns-3
 returns-3 c =
@@ -107,12 +82,12 @@ returns-3 c =
     let k₂ = k₁ .before in
     let k₃ = k₂ .before in
     let k₄ = k₃ .before .before .before .before .before in
-    let k₅ = k₄ .before .before .before .before .before in
-    let k₆ = k₅ .before .before .before .before in
+    let k₅ = k₄ .before in
+    let k₆ = k₅ .before .before .before .before .before in
     let k₇ = k₆ .before .before in
     let k₈ = k₇ .before .before in
     let k₉ = k₈ .before .before .before in
-    (good-told (area-entered (omega (arith, k₆ .clear .ensures .0, k₉ .pre)) (subst (Says (now (k₉ .args .s))) (k₇ .enum-told .given .1) (k₈ .check .ensures)) (k₅ .names .ensures)) (k₄ .body .ensures) (k₁ .settle .result) (k₁ .settle .ensures) (k₃ .least .ensures) (k₂ .least2 .ensures) (c .before .before .enum-told2 .given .1) (omega (arith, k₅ .names .ensures .long, k₆ .clear .ensures .0, k₉ .pre)) (still-zero (k₅ .names .ensures) (k₆ .clear .ensures .1)), all-long (k₄ .body .ensures) ∙ k₅ .names .ensures .long ∙ k₆ .clear .ensures .0)
+    (good-told (subst (Says (now (k₉ .args .s))) (k₇ .enum-told .given .1) (k₈ .check .ensures)) (k₆ .prepare .ensures) (k₅ .own .ensures) (k₄ .body .ensures) (k₁ .settle .result) (k₁ .settle .ensures) (k₃ .least .ensures) (k₂ .least2 .ensures) (c .before .before .enum-told2 .given .1) (k₉ .pre), all-long (k₄ .body .ensures) ∙ k₆ .prepare .ensures .long)
 
 pub read-spec : {M : Type 1} → statement M
 read-spec =
@@ -122,8 +97,8 @@ read-spec =
     enum-known-number
     returns
     enum-told
-    clear-requires
-    names-requires
+    prepare-requires
+    own-requires
     body-requires
     least-requires
     least-requires-2
@@ -132,7 +107,7 @@ read-spec =
     same-length
     returns-2
     enum-told-2
-    cast-t23
-    cast-t24
+    cast-t21
+    cast-t22
     same-length-2
     returns-3)

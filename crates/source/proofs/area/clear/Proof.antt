@@ -9,10 +9,10 @@ use Rattle.source.proofs.area.clear.Statement.{statement}
 use Rattle.source.proofs.area.clear.Tie as tie
 
 abbrev Inv-loop : tie.InvT-loop
-Inv-loop work₀ j₀ work j = (j ≤ 8192) × (length work ≡ length work₀) × ((i : ℕ) → i < j → getD work i 0 ≡ 0)
+Inv-loop work₀ j₀ work j = (j ≤ 32768) × (length work ≡ length work₀) × ((i : ℕ) → i < j → getD work i 0 ≡ 0)
 
 abbrev μ-loop : tie.MeasureT-loop
-μ-loop work₀ j₀ work j = 8192 - j
+μ-loop work₀ j₀ work j = 32768 - j
 
 pub clear-spec : {M : Type 1} → statement M
 clear-spec =

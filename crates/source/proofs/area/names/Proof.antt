@@ -1,8 +1,6 @@
 -- `source::area::names` meets its contract.
 -- Assumes nothing.
 use borrow.Author.Needs.{needs}
-use Rattle.parts.specs.Beside.{beside}
-use Rattle.source.specs.Area.{treeOf}
 use Rattle.source.proofs.area.names.Statement.{statement}
 use Rattle.source.proofs.area.names.Tie as tie
 
@@ -13,10 +11,7 @@ same-length : tie.Need-same-length
 same-length c = search needs
 
 returns : tie.Need-returns
-unfolding beside treeOf
-returns c =
-    let k₁ = c .before .before in
-    record { came = k₁ .from .ensures .0; tree = k₁ .from .ensures .1; long = k₁ .from .ensures .2 }
+returns c = c .before .before .from .ensures
 
 pub names-spec : {M : Type 1} → statement M
 names-spec = tie.close (tie.spec from-requires same-length returns)

@@ -1,0 +1,4 @@
+pub mod Room
+pub mod Hands
+pub mod Settles
+pub mod Enters

@@ -1,0 +1,4 @@
+pub mod Expanded
+pub mod Refused
+pub mod Inside
+pub mod Passing

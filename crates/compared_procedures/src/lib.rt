@@ -1,0 +1,1 @@
+// Texts with procedures and their listings, by the definitions. No code.

@@ -1,0 +1,6 @@
+pub mod Accounts
+pub mod Walks
+pub mod Faults
+pub mod Sizes
+pub mod Places
+pub mod Within

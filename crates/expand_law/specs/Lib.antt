@@ -1,0 +1,4 @@
+pub mod Accounts
+pub mod Walks
+pub mod Faults
+pub mod Sizes

@@ -1,0 +1,9 @@
+pub mod Listed
+pub mod Formal
+pub mod Single
+pub mod Following
+pub mod Putting
+pub mod Rowed
+pub mod Heads
+pub mod Stays
+pub mod Pushing

@@ -1,0 +1,5 @@
+pub mod States
+pub mod Laws
+pub mod Lists
+pub mod Calling
+pub mod Outer

@@ -1,0 +1,15 @@
+-- `sizes::counts::formal` meets its contract.
+-- Assumes nothing.
+use mathlib.Core.Path.{refl}
+use borrow.Author.Needs.{needs}
+use Rattle.sizes.proofs.counts.formal.Statement.{statement}
+use Rattle.sizes.proofs.counts.formal.Tie as tie
+
+deeper-requires : tie.Need-deeper-requires
+deeper-requires c κs = search needs
+
+returns : tie.Need-returns
+returns c = rw (c .deeper .ensures) refl
+
+pub formal-spec : {M : Type 1} → statement M
+formal-spec = tie.close (tie.spec deeper-requires returns)

@@ -1,0 +1,4 @@
+pub mod Small
+pub mod Chosen
+pub mod Laws
+pub mod Rows

@@ -1,0 +1,4 @@
+pub mod Sorts
+pub mod Leading
+pub mod Laws
+pub mod Filling
