@@ -1,6 +1,5 @@
 #include "chains.h"
 
-#include <stdio.h>
 #include <string.h>
 
 /* What every such source declares, and its end. */
@@ -26,10 +25,13 @@ static void put_words(const char *words)
     put(words, strlen(words));
 }
 
+/* Names of two letters, so that a text holds many procedures. */
 static void put_name(int number)
 {
-    char name[16];
-    put(name, (size_t)snprintf(name, sizeof name, "n%d", number));
+    static const char second[] = "0123456789abcdefghijklmnopqrstuvwxyzABCDEFGHIJKLMNOPQRSTUVWXYZ";
+    const int count = (int)sizeof second - 1;
+    const char name[2] = {(char)('J' + number / count), second[number % count]};
+    put(name, sizeof name);
 }
 
 static void put_template(const struct chain *c, const char *from, int number)
@@ -50,13 +52,14 @@ static void put_template(const struct chain *c, const char *from, int number)
 static int put_procedure(const struct chain *c, const char *body, int number, size_t left)
 {
     const size_t before = length;
+    const char *formals = number == 0 && c->first_formals ? c->first_formals : c->formals;
     put_words("procedure ");
     put_name(number);
     put_words("(");
-    put_words(c->formals);
-    put_words(") ");
+    put_words(formals);
+    put_words(")");
     put_template(c, body, number - 1);
-    put_words(" endproc ");
+    put_words(is_full || text[length - 1] == ')' ? "endproc " : " endproc ");
     if (is_full || length + left > most) {
         length = before;
         is_full = 0;
@@ -77,18 +80,18 @@ static int put_call(const struct chain *c, int last)
     return 1;
 }
 
-/* How many bytes a piece takes at most, the name of a procedure having five. */
+/* How many bytes a piece takes at most. */
 static size_t size_of(const struct chain *c, const char *body)
 {
     size_t size = 0;
     for (; *body != '\0'; body++)
-        size += *body == '@' ? 5 : *body == '#' ? strlen(c->filler) * (size_t)c->fills : 1;
+        size += *body == '@' ? 2 : *body == '#' ? strlen(c->filler) * (size_t)c->fills : 1;
     return size;
 }
 
 size_t chained(uint8_t *source, size_t room, const struct chain *c, int links)
 {
-    const size_t around = strlen("procedure n1234() endproc ") + strlen(c->formals) + 1;
+    const size_t around = strlen("procedure J0() endproc ") + strlen(c->formals) + 1;
     const size_t end = size_of(c, c->call) + strlen(TAIL);
     const size_t tops = (size_t)c->tops * (around + size_of(c, c->top));
     int last = 0;

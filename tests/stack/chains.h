@@ -17,6 +17,7 @@ struct chain {
     int calls;         /* how often at most */
     const char *filler;
     int fills;
+    const char *first_formals; /* those of the first procedure, where it has others */
 };
 
 /* Writes the source with so many links, fewer where they do not fit, and answers its length, `room` at most; 0 if nothing fits. */

@@ -6,8 +6,8 @@
 #include "used.h"
 #include "windnadel.h"
 
-/* The most stack that a compile may use, and how deep a source may nest. */
-enum { BOUND = 256 * 1024, LEVELS = 32 };
+/* The most stack that a compile may use, without calls and with them, and how deep a source may nest. */
+enum { BOUND = 256 * 1024, CALLS_BOUND = 640 * 1024, LEVELS = 32 };
 
 static uint8_t source[WINDNADEL_LONGEST_SOURCE];
 static size_t length;
@@ -53,20 +53,29 @@ static int expressions(const char *name, const char *part, const char *end)
     return nested(name, "program p; output A; integer x[1]; x := ", part, LEVELS, "x", end, " endprog");
 }
 
+/* 31 levels around an operand, and around a statement. */
+#define EIGHT(part) part part part part part part part part
+#define MOST(part) EIGHT(part) EIGHT(part) EIGHT(part) part part part part part part part
+#define DEEP(operand) MOST("(") operand MOST(")")
+#define LOOPS(statement) MOST("loop ") statement MOST(" endloop")
+
 /* Calls in calls: as many as a text can hold, and as many as its levels let through. */
 static int calls(void)
 {
     static const struct chain chains[] = {
-        {"calls in calls", "", "skip", "@()", "", 0, "@();", 1, "", 0},
-        {"calls with a formal", "a", "raise(a)", "@(a)", "", 0, "@(A);", 1, "", 0},
-        {"calls with formals exchanged", "a,b", "raise(a)", "@(b,a)", "", 0, "@(A,A);", 1, "", 0},
-        {"calls with an actual of a formal", "a", "skip", "@(a+a)", "", 0, "@(x);", 1, "", 0},
-        {"calls in activities", "", "skip", "parallel skip||@() endparallel", "", 0, "@();", 1, "", 0},
-        {"calls in cases", "", "skip", "switch case I:@() default:skip endswitch", "", 0, "@();", 1, "", 0},
-        {"calls in loops", "", "skip", "loop @() endloop", "", 0, "@();", 1, "", 0},
-        {"an actual handed on", "a", "x:=a", "@(a)", "", 0, "@(x);", 1, "", 0},
-        {"an actual in parentheses", "a", "x:=a", "@((a))", "", 0, "@(x);", 1, "", 0},
-        {"an actual of a right operand", "a", "x:=a", "@(1*a)", "", 0, "@(x);", 1, "", 0},
+        {"calls in calls", "", "skip", "@()", "", 0, "@();", 1, "", 0, 0},
+        {"calls with a formal", "a", "raise(a)", "@(a)", "", 0, "@(A);", 1, "", 0, 0},
+        {"calls with formals exchanged", "a,b", "raise(a)", "@(b,a)", "", 0, "@(A,A);", 1, "", 0, 0},
+        {"calls with an actual of a formal", "a", "skip", "@(a+a)", "", 0, "@(x);", 1, "", 0, 0},
+        {"calls in activities", "", "skip", "parallel skip||@() endparallel", "", 0, "@();", 1, "", 0, 0},
+        {"calls in cases", "", "skip", "switch case I:@() default:skip endswitch", "", 0, "@();", 1, "", 0, 0},
+        {"calls in loops", "", "skip", "loop @() endloop", "", 0, "@();", 1, "", 0, 0},
+        {"an actual handed on", "a", "x:=a", "@(a)", "", 0, "@(x);", 1, "", 0, 0},
+        {"an actual in parentheses", "a", "x:=a", "@((a))", "", 0, "@(x);", 1, "", 0, 0},
+        {"calls above an expression", "", "x:=" DEEP("x"), "@()", "", 0, "@();", 1, "", 0, 0},
+        {"calls above a bit of a formal", "a", "if " DEEP("a[0]") " then skip endif", "@(a)", "", 0, "@(x);", 1, "", 0, 0},
+        {"calls in levels, above an expression", "", "x:=" DEEP("x"), "@()", "", 0, LOOPS("@()") ";", 1, "", 0, 0},
+        {"an actual of a right operand", "a", "x:=a", "@(1*a)", "", 0, "@(x);", 1, "", 0, 0},
     };
     static const int links[] = {5, 6, 7, 15, 16, 30, 31, 32, 33, 1000};
     int failed = 0;
@@ -77,8 +86,8 @@ static int calls(void)
             const size_t bytes = used(compiled);
             most = bytes > most ? bytes : most;
         }
-        printf("stack: %s takes %zu bytes, at most %d\n", chains[i].name, most, BOUND);
-        failed |= most > BOUND;
+        printf("stack: %s takes %zu bytes, at most %d\n", chains[i].name, most, CALLS_BOUND);
+        failed |= most > CALLS_BOUND;
     }
     return failed;
 }

@@ -16,7 +16,7 @@ use Rattle.meaning.proofs.Places.{Places, more, resume-places-all}
 use Rattle.nodes.specs.Decode.{listAt}
 use Rattle.runs.specs.declared.Entry.{Entry}
 use Rattle.runs.specs.Run.{empty, entryOf, window, put, Clear, embed}
-use Rattle.runs.specs.Buffer.{unpacked, entriesIn, maskIn, Holds, Comes, Open}
+use Rattle.runs.specs.Buffer.{unpacked, entriesIn, maskIn, onesIn, zerosIn, Holds, Comes, Open}
 use Rattle.runs.specs.Seen.{resumeAllSeen}
 use Rattle.runs.proofs.Buffer.{entries-long, entry-at}
 use Rattle.runs.proofs.Unseen.{agree-masked, resume-all-same}
@@ -26,6 +26,14 @@ use Rattle.runs.proofs.Join.{put-widened, length-widened}
 use Rattle.clock.specs.declared.State.{State}
 use Rattle.clock.specs.Step.{eight, stateOf, stateFrom, settledIn, Starts, Clocks}
 use Rattle.nodes.specs.Ready.{Ready}
+
+-- a clock that ends below 3 leaves the word, and any other has its tries in it
+module _ (l : List ℕ) (h word : ℕ) {es : List Entry} (e : es ≡ entriesIn l) where
+  pub word-stays : h < 3 → _≡_ {A = State} (record { entries = es; word = word }) (settledIn l h word)
+  word-stays q = rw (lt-ltb _ _ q, e) refl
+
+  pub word-tried : 3 ≤ h → _≡_ {A = State} (record { entries = es; word = without (bitOr word (onesIn l)) (zerosIn l) }) (settledIn l h word)
+  word-tried q = rw (le-ltb _ _ q, e) refl
 
 none-at : (n k : ℕ) → getD (replicate n empty) k empty ≡ empty
 none-at zero k = refl

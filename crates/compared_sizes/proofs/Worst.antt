@@ -16,6 +16,8 @@ pub record Worst : Type 0 where
   pub left-only : Lists 256 "program p; integer x[16], y[2]; output A; internal B; x := x * 32768 / 32769 % x + 32768 endprog" "refused 10 at 81\n"
   pub left-only-full : Lists 256 "program p; integer x[16], y[2]; output A; internal B; x := x * 32768 / 32769 % x + 32767 endprog" "machine p\ninputs -\noutputs A\nstates 2\n0 0 1\n1 0 1\n"
   pub right-not : Lists 256 "program p; integer x[16], y[2]; output A; internal B; x := 1 / (x * 32768) * x * 32768 + 5 % (x * 32768) endprog" "machine p\ninputs -\noutputs A\nstates 2\n0 0 1\n1 0 1\n"
+  pub over-right : Lists 256 "program p; integer x[16]; x := 1 / (x * 32769) endprog" "refused 10 at 38\n"
+  pub rest-right : Lists 256 "program p; integer x[16]; x := 5 % (x * 32769) endprog" "refused 10 at 38\n"
   pub zero-factor : Lists 256 "program p; integer x[16], y[2]; output A; internal B; x := 0 * (x * 32769) endprog" "refused 10 at 66\n"
   pub in-comparison : Lists 256 "program p; integer x[16]; if x == x * 32769 then skip endif; if 1 < x * 32769 then skip endif endprog" "refused 10 at 36\n"
   pub in-int : Lists 256 "program p; integer x[16]; x := int(x > x * 32769) + x * 32769 endprog" "refused 10 at 41\n"
@@ -40,6 +42,8 @@ worst =
       left-only = lists refl;
       left-only-full = lists refl;
       right-not = lists refl;
+      over-right = lists refl;
+      rest-right = lists refl;
       zero-factor = lists refl;
       in-comparison = lists refl;
       in-int = lists refl;

@@ -2,7 +2,7 @@
 -- Assumes nothing.
 use mathlib.Core.Bool.{Bool, true, false, cond}
 use mathlib.Core.Path.{_≡_, refl, sym, _∙_, ap}
-use mathlib.Core.List.{List, [], _∷_, map, map-id}
+use mathlib.Core.List.{List, [], map, map-id}
 use mathlib.Core.Option.{Option, none, some}
 use Prim.Native.Nat.{ℕ, zero, suc, _+_, _≤_, min}
 use native.Mathlib.Omega.{arith}
@@ -22,7 +22,7 @@ use Rattle.meaning.proofs.Actuals.{asMany, as-many}
 use Rattle.own_law.specs.Own.{Own, nothing, past, begun, ownAll}
 use Rattle.own_law.proofs.Borne.{bears, made}
 use Rattle.own_law.proofs.Own.{statementsIn, partsIn, all-adds, nothing-sound}
-use Rattle.own_law.proofs.Calls.{own-refused, expansion, kept}
+use Rattle.own_law.proofs.Calls.{own-refused, kept}
 use Rattle.kept_law.specs.Kept.{Every}
 use Rattle.kept_law.specs.Written.{WrittenAll, WrittenProcedure}
 use Rattle.kept_law.proofs.Written.{procedure-written, called-written, none-passing}

@@ -36,7 +36,7 @@ pub fn measure(s: &[u8], t: &mut [u8], u: Under, around: u8, first: Here) -> Gau
     if after.kind != 14 {
         return made(first, false, 0, false);
     }
-    let m = measure::outermost(s, t, u, first, after);
+    let m = measure::outermost(s, t, u, first, after, around);
     let word = m.word;
     if m.passed {
         let row = find::procedure(s, t, u.seen, first.place, first.next);
@@ -44,8 +44,8 @@ pub fn measure(s: &[u8], t: &mut [u8], u: Under, around: u8, first: Here) -> Gau
         return made(word, true, acts, false);
     }
     if m.over {
-        return made(word, true, m.acts, false);
+        let own = measure::outermost(s, t, u, first, after, 0);
+        return made(word, own.over, m.acts, true);
     }
-    let fits = measure::fits(s, t, u, first, after, around);
-    made(word, false, 0, !fits)
+    made(word, false, 0, false)
 }

@@ -55,13 +55,24 @@ fn heading_end(source: &[u8]) -> usize {
 }
 
 fn declares(kind: u8) -> bool {
+    if kind == kinds::PROCEDURE {
+        return true;
+    }
     if kind < kinds::INPUT {
         return false;
     }
     kind <= kinds::INTEGER
 }
 
-// Those that the declarations of that kind declare, or `-`. A declaration is open from its keyword up to its semicolon.
+// The word that ends such a declaration.
+fn last_of(kind: u8) -> u8 {
+    if kind == kinds::PROCEDURE {
+        return kinds::ENDPROC;
+    }
+    kinds::SEMICOLON
+}
+
+// Those that the declarations of that kind declare, or `-`. A declaration is open from its keyword up to its last word; behind a procedure a semicolon may stand.
 pub fn declared(source: &[u8], kind: u8) {
     let mut at = heading_end(source);
     let mut open = kinds::SEMICOLON;
@@ -74,10 +85,13 @@ pub fn declared(source: &[u8], kind: u8) {
                 open = w.kind;
                 continue;
             }
+            if w.kind == kinds::SEMICOLON {
+                continue;
+            }
             break;
         }
-        if w.kind == kinds::SEMICOLON {
-            open = w.kind;
+        if w.kind == last_of(open) {
+            open = kinds::SEMICOLON;
             continue;
         }
         if open != kind {

@@ -1,6 +1,6 @@
 -- What the readers that count promise: for all words that the text has from there on, whatever they come to by the grammar, the tally is that of what they stand for under open calls.
 -- Assumes nothing.
-use mathlib.Core.Bool.{Bool, true, false, not as opposite}
+use mathlib.Core.Bool.{true, false}
 use mathlib.Core.Path.{_≡_}
 use mathlib.Core.List.{List, [], _∷_}
 use Prim.Native.Nat.{ℕ, _≤_, _<_, min}
@@ -154,21 +154,14 @@ pub record BranchesCame (s z : List ℕ) (u : Under) (k n : ℕ) (h : Here) (m :
 abbrev pub underCall : Under → ℕ → Under
 underCall u p = record { at = p; frame = u .frame; depth = u .depth; seen = u .seen; top = u .top }
 
--- P13, P14: what is told of it
-pub record MeasuredIs (ps : List Procedure) (v : Name) (ts : List Term) (r : Measured) : Type 0 where
-  pub over : r .over ≡ ownAll true (expansion ps v ts) nothing .over
+-- what is told of it with n levels open around: P12, P13 whether a size is passed there, and P14 by itself
+pub record MeasuredIs (ps : List Procedure) (v : Name) (ts : List Term) (n : ℕ) (r : Measured) : Type 0 where
+  pub over : r .over ≡ ownAll true (expansion ps v ts) (around n) .over
   pub passed : r .passed ≡ ownAll false (expansion ps v ts) nothing .over
   pub acts : r .passed ≡ false → r .acts ≡ min (activitiesAll (baseAll (expansion ps v ts))) mostCounted
 
 -- .. in the program's own text, from its name on
-pub record MeasuredCame (s z : List ℕ) (u : Under) (h : Here) (t t₁ : List ℕ) (r : Measured) : Type 0 where
+pub record MeasuredCame (s z : List ℕ) (u : Under) (n : ℕ) (h : Here) (t t₁ : List ℕ) (r : Measured) : Type 0 where
   pub on : On s h t t₁ (r .word)
   pub told : (ps : List Procedure) → Open s z ps [] u → u .depth ≡ 0 → (ws : List Word) → Stands s h ws → (f k : ℕ) (v : Name) (ts : List Term) (rest : List Word) → k ≤ 32 → StatementRow f k ws (call v ts) rest 5
-      → Tells s (r .word) rest (MeasuredIs ps v ts r)
-
--- P12: whether no size is passed with n levels open around
-pub record FitsCame (s z : List ℕ) (u : Under) (n : ℕ) (h : Here) (t t₁ : List ℕ) (r : Bool) : Type 0 where
-  pub tree : take treeBytes t₁ ≡ take treeBytes t
-  pub kept : beside t₁ ≡ beside t
-  pub told : (ps : List Procedure) → Open s z ps [] u → u .depth ≡ 0 → (ws : List Word) → Stands s h ws → (f k : ℕ) (v : Name) (ts : List Term) (rest : List Word) → k ≤ 32 → StatementRow f k ws (call v ts) rest 5
-      → r ≡ opposite (ownAll true (expansion ps v ts) (around n) .over)
+      → Tells s (r .word) rest (MeasuredIs ps v ts n r)

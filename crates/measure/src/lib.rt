@@ -3,7 +3,7 @@ ghost use mathlib.Core.Path.{_≡_};
 ghost use Prim.Native.Nat.{ℕ, _≤_, _<_};
 ghost use Rattle.hand.specs.Along.{Near, Begins};
 ghost use Rattle.parts.specs.Beside.{beside};
-ghost use Rattle.measure.specs.Counted.{Ready, RowCame, One, All, CaseCame, CasesCame, BranchCame, BranchesCame, underCall, MeasuredCame, FitsCame};
+ghost use Rattle.measure.specs.Counted.{Ready, RowCame, One, All, CaseCame, CasesCame, BranchCame, BranchesCame, underCall, MeasuredCame};
 use frames::Under;
 use frames::put;
 use hand::Here;
@@ -305,7 +305,7 @@ fn branches(
     }
 }
 
-// An outermost call: the word behind it, whether its expansion passes a size by itself, whether that has a statement or a part too many, and if not, its activities.
+// An outermost call: the word behind it, whether its expansion passes a size where it stands, whether that has a statement or a part too many, and if not, its activities.
 pub struct Measured {
     pub word: Here,
     pub over: bool,
@@ -326,20 +326,13 @@ fn inside(u: Under, p: u16) -> Under
     }
 }
 
-// An outermost call from its name on, in the program's own text; `after` is the `(` behind the name.
-pub fn outermost(s: &[u8], t: &mut [u8], u: Under, first: Here, after: Here) -> Measured
-    requires { ⌜ Near (now s) first × Begins (now s) (first .next) after × (after .kind ≡ 14) ⌝ }
-    ensures { λ r. ⌜ MeasuredCame (now (s .entry)) (beside (now (t .entry)) .names) u first (now (t .entry)) (now (t .exit)) r ⌝ }
+// An outermost call from its name on, in the program's own text, with so many levels open around (P12); `after` is the `(` behind the name.
+pub fn outermost(s: &[u8], t: &mut [u8], u: Under, first: Here, after: Here, around: u8) -> Measured
+    requires { ⌜ Near (now s) first × Begins (now s) (first .next) after × (after .kind ≡ 14) × (around ≤ 32) ⌝ }
+    ensures { λ r. ⌜ MeasuredCame (now (s .entry)) (beside (now (t .entry)) .names) u around first (now (t .entry)) (now (t .exit)) r ⌝ }
 {
-    let c = call(
-        s,
-        t,
-        inside(u, first.place),
-        first,
-        after,
-        tally::start(),
-        0,
-    );
+    let v = inside(u, first.place);
+    let c = call(s, t, v, first, after, tally::start(), around);
     let word = c.word;
     let k = c.tally;
     Measured {
@@ -348,22 +341,4 @@ pub fn outermost(s: &[u8], t: &mut [u8], u: Under, first: Here, after: Here) -> 
         passed: k.passed,
         acts: k.acts,
     }
-}
-
-// Whether it passes no size where it stands, with so many levels open around (P12).
-pub fn fits(s: &[u8], t: &mut [u8], u: Under, first: Here, after: Here, around: u8) -> bool
-    requires { ⌜ Near (now s) first × Begins (now s) (first .next) after × (after .kind ≡ 14) × (around ≤ 32) ⌝ }
-    ensures { λ r. ⌜ FitsCame (now (s .entry)) (beside (now (t .entry)) .names) u around first (now (t .entry)) (now (t .exit)) r ⌝ }
-{
-    let c = call(
-        s,
-        t,
-        inside(u, first.place),
-        first,
-        after,
-        tally::start(),
-        around,
-    );
-    let k = c.tally;
-    !tally::over(k)
 }

@@ -1,10 +1,10 @@
 -- A part of the numbering: what holds of the states that are found before state i is looked at with input x.
 -- Assumes nothing.
-use mathlib.Core.Path.{_≡_, refl, ap, sym, _∙_}
+use mathlib.Core.Path.{_≡_, refl, ap, sym, _∙_, subst}
 use mathlib.Core.Logic.{_⊎_, inl, inr}
 use mathlib.Core.List.{List, [], _∷_, _++_, List·Memᴰ, List·Memᴰ·head, List·Memᴰ·append-cases, List·Memᴰ·eq-of-singleton, List·Memᴰ·not-nil, Memᴰ·append-left, Memᴰ·append-right, Memᴰ·cast}
 use Prim.Native.Nat.{ℕ, _+_, _<_, _≤_}
-use lib.ListN.{length, getD, length-append, List·getD-append}
+use lib.ListN.{take, length, getD, length-append, List·getD-append}
 use lib.Seq.{take-append-le, take-append-seam, getD-append-seam}
 use native.Mathlib.Nat.{eq-or-lt-of-le}
 use native.Mathlib.Omega.{arith}
@@ -96,7 +96,9 @@ module _ {S : Type 0} where
             earlier = omega (arith, r .here);
             input = input;
             meets = rw (old i (r .here), r .stands, e, getD-append-seam L (m .step s x) [] (m .start));
-            first = λ a y h b. rw (old a (omega (arith, r .here, before-low b)), e, take-append-seam L (m .step s x ∷ [])) (r .part .closed a y h b);
+            first = λ a y h b.
+                subst (λ (l : List S). List·Memᴰ (m .step (getD grown a (m .start)) y) l) (sym (ap (λ (n : ℕ). take n grown) e ∙ take-append-seam L (m .step s x ∷ [])))
+                (rw (old a (omega (arith, r .here, before-low b))) (r .part .closed a y h b));
           }
       grown-met j pos (inr k) =
           let f = r .part .met j pos k in

@@ -1,7 +1,7 @@
 -- The laws of the reader of a call: one for each way on.
 -- Assumes nothing.
 use mathlib.Core.Bool.{Bool, true, false, cond}
-use mathlib.Core.Path.{_≡_, refl, sym, _∙_, ap, ap₂, subst}
+use mathlib.Core.Path.{_≡_, refl, sym, _∙_, ap, subst}
 use mathlib.Core.List.{List, [], _∷_, _++_, map}
 use mathlib.Core.Option.{Option}
 use Prim.Native.Nat.{ℕ, _+_, _-_, _*_, _≤_, _<_}
@@ -46,6 +46,7 @@ use Rattle.own_law.proofs.Early.{read-outermost}
 use Rattle.expand_law.proofs.Places.{faults-at-call}
 use Rattle.gauge.specs.declared.Gauged.{Gauged}
 use Rattle.gauge.specs.Measures.{Sized, Measures}
+use Rattle.gauge.proofs.Laws.{same-area}
 use Rattle.order_law.proofs.Senses.{own-bound}
 use Rattle.order_law.proofs.Outermost.{read-levels}
 use Rattle.tiers.proofs.Laws.{first-is}
@@ -111,9 +112,7 @@ module _ {s : List ℕ} {under : Under} {h : Here} {t t₁ : List ℕ} {e : Ente
 
   -- nothing is written
   pub wrote-none : e .ok ≡ false → t₁ ≡ t
-  wrote-none no-call =
-      let same : beside t₁ ≡ beside t = subst (Wrote s t t₁ under e) no-call (enters .wrote) in
-      sym (whole-area t₁) ∙ ap₂ _++_ (enters .tree) (ap (λ (d : Beside). d .names) same) ∙ whole-area t
+  wrote-none no-call = same-area t t₁ (enters .tree) (subst (Wrote s t t₁ under e) no-call (enters .wrote))
 
   pub wrote-frame : e .ok ≡ true → Wrote s t t₁ under e true
   wrote-frame yes-call = subst (Wrote s t t₁ under e) yes-call (enters .wrote)
@@ -325,9 +324,19 @@ module _ {s : List ℕ} {count : ℕ} {under : Under} {h : Here} {t t₁ : List 
       ∙ sym (read-levels n x place (faults-at-call [] (o .procedures) called-name ts .levels n) few (sized .none) (lookIn s (beside t .names) count) l b w)
       ∙ sym (outermost-by (lookIn s (beside t .names) count) (o .procedures) called-name ts n l b w false (sym e ∙ sized .over)) ∙ sym (named-call n l b w)
 
-module _ {s : List ℕ} {count : ℕ} {under : Under} {k : ℕ} {l b : Bool} {h : Here} {m : Marks} {t t₁ : List ℕ} {q : Gauged} (near : Near s h) (measures : Measures s (insideAt under (h .place)) (around k) h t t₁ q) where
-  pub outermost-over : {u : List ℕ} {r : Read} → q .over ≡ true → Passes (toldAt (under .at) (h .place)) (q .acts) (q .word) m t u r → OutermostCame s (beside t .names) count under k l b h m t u r
-  outermost-over {u} {r} over fin =
+-- all that it stands for is told at its place
+module _ {s : List ℕ} {v : Under} {h : Here} {t t₁ : List ℕ} (under : Under) (inside-is : v ≡ insideAt under (h .place)) where
+  measured-inside : {n : ℕ} {q : Gauged} (k : ℕ) → n ≡ around k → Measures s v n h t t₁ q → Measures s (insideAt under (h .place)) (around k) h t t₁ q
+  measured-inside k open-are gauges = rw (inside-is, open-are) at gauges
+
+  called-inside : {count : ℕ} {l b : Bool} {m : Marks} {u : List ℕ} {r : Read} → t₁ ≡ t → CallCame s (beside t₁ .names) count v l b h m t₁ u r → CallCame s (beside t .names) count (insideAt under (h .place)) l b h m t u r
+  called-inside still calls = rw (inside-is, still) at calls
+
+module _ {s : List ℕ} {count : ℕ} {under v : Under} {n k : ℕ} {l b : Bool} {h : Here} {m : Marks} {t t₁ : List ℕ} {q : Gauged} (near : Near s h) (inside-is : v ≡ insideAt under (h .place)) (gauges : Measures s v n h t t₁ q) (open-are : n ≡ around k) where
+  pub outermost-over : {u : List ℕ} {r : Read} → q .over ≡ true → Passes (v .at) (q .acts) (q .word) m t₁ u r → OutermostCame s (beside t .names) count under k l b h m t u r
+  outermost-over {u} {r} over passes =
+      let fin : Passes (toldAt (under .at) (h .place)) (q .acts) (q .word) m t u r = rw (inside-is, gauges .still) at passes in
+      let measures = measured-inside under inside-is k open-are gauges in
       record {
         on = record { near = rw (fin .word) (measures .near); later = rw (fin .word) (measures .later); kept = fin .kept };
         told = λ o outside v ts rest at.
@@ -337,9 +346,11 @@ module _ {s : List ℕ} {count : ℕ} {under : Under} {k : ℕ} {l b : Bool} {h 
             };
       }
 
-  module _ {u : List ℕ} {r : Read} (within : q .over ≡ false) (came : CallCame s (beside t .names) count (insideAt under (h .place)) l b h m t u r) where
+  module _ {u : List ℕ} {r : Read} (within : q .over ≡ false) (calls : CallCame s (beside t₁ .names) count v l b h m t₁ u r) where
     pub outermost-flat : q .deep ≡ false → OutermostCame s (beside t .names) count under k l b h m t u r
     outermost-flat flat =
+        let measures = measured-inside under inside-is k open-are gauges in
+        let came = called-inside under inside-is (gauges .still) calls in
         record {
           on = came .on;
           told = λ o outside v ts rest at.
@@ -352,15 +363,17 @@ module _ {s : List ℕ} {count : ℕ} {under : Under} {k : ℕ} {l b : Bool} {h 
               };
         }
 
-    pub outermost-deep : {m₂ : Marks} {r₂ : Read} → q .deep ≡ true → ((c : List ℕ) → walked m₂ c ≡ nineAt (toldAt (under .at) (h .place)) (walked (r .marks) c)) → r₂ .word ≡ q .word → r₂ .marks ≡ m₂ → OutermostCame s (beside t .names) count under k l b h m t u r₂
+    pub outermost-deep : {m₂ : Marks} {r₂ : Read} → q .deep ≡ true → ((c : List ℕ) → walked m₂ c ≡ nineAt (v .at) (walked (r .marks) c)) → r₂ .word ≡ q .word → r₂ .marks ≡ m₂ → OutermostCame s (beside t .names) count under k l b h m t u r₂
     outermost-deep {m₂} {r₂} deep notes word marks =
+        let measures = measured-inside under inside-is k open-are gauges in
+        let came = called-inside under inside-is (gauges .still) calls in
         record {
           on = record { near = rw word (measures .near); later = rw word (measures .later); kept = came .on .kept };
           told = λ o outside v ts rest at.
               let i = came .told (own-scope o outside (h .place)) (told-inside near measures o outside at) (around k) v ts rest at in
               record {
                 word = rw word (sized near measures o outside at .word);
-                walks = ap (λ (j : Marks). walked j u) marks ∙ notes u ∙ ap (nineAt (toldAt (under .at) (h .place))) (i .walks)
+                walks = ap (λ (j : Marks). walked j u) marks ∙ notes u ∙ ap (λ (j : Under). nineAt (j .at) (walked (r .marks) u)) inside-is ∙ ap (nineAt (toldAt (under .at) (h .place))) (i .walks)
                     ∙ ap (λ (d : Bool). cond d (nineAt (toldAt (under .at) (h .place)) (oneIn (senseOf count (own-scope o outside (h .place))) (around k) (call v ts) l b (walked m t))) (oneIn (senseOf count (own-scope o outside (h .place))) (around k) (call v ts) l b (walked m t))) (sym deep)
                     ∙ within-walk near measures o outside at l b (walked m t) (omega arith) within;
               };

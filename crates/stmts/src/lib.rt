@@ -92,16 +92,12 @@ fn call(
     ensures { λ r. ⌜ CallCame (now (s .entry)) (beside (now (t .entry)) .names) count u lp br first marks (now (t .entry)) (now (t .exit)) r ⌝ }
 {
     let e = calls::enter(s, t, u, first);
-    let w = e.word;
     if e.ok {
-        let v = e.under;
-        let b = e.body;
-        let r = list(s, count, t, v, b, marks, lp, br, 32);
-        frames::put::clear(t, u.top, v.top);
-        let m = r.marks;
-        return items::made(w, m);
+        let r = list(s, count, t, e.under, e.body, marks, lp, br, 32);
+        frames::put::clear(t, u.top, e.under.top);
+        return items::made(e.word, r.marks);
     }
-    plain::stays::refused(t, w, marks, u.at)
+    plain::stays::refused(t, e.word, marks, u.at)
 }
 
 // A call in the program's own text: read if it passes no size by itself (P13); the levels that it opens are told at its place.
@@ -121,14 +117,12 @@ fn outermost(
 {
     let v = items::inside(u, first.place);
     let k = gauge::measure(s, t, v, 32 - levels, first);
-    let w = k.word;
     if k.over {
-        return plain::stays::passing(t, w, marks, v.at, k.acts);
+        return plain::stays::passing(t, k.word, marks, v.at, k.acts);
     }
     let r = call(s, count, t, v, first, marks, lp, br, levels);
     if k.deep {
-        let m = r.marks;
-        return items::made(w, items::noted::passing(m, v.at));
+        return items::made(k.word, items::noted::passing(r.marks, v.at));
     }
     r
 }
@@ -147,15 +141,12 @@ fn loop_always(
     requires { ⌜ (0 < levels) × Ready (now s) (beside (now t)) count levels first ⌝ }
     ensures { λ r. ⌜ ((l : Bool) → RowCame (now (s .entry)) (beside (now (t .entry)) .names) count u levels l br 8 first marks (now (t .entry)) (now (t .exit)) r) ⌝ }
 {
-    let i = marks.nodes;
     let p = items::told(u, first.place);
     let m = items::noted::begun(marks, p);
     let second = hand::word_from(s, first.next);
     let a = list(s, count, t, u, second, m, true, br, levels - 1);
-    let v = a.word;
-    let k = a.marks;
-    let next = hand::word_from(s, v.next);
-    written::finish(t, i, 8, p, next, k, 0, 0, 0, 0)
+    let next = hand::word_from(s, a.word.next);
+    written::finish(t, marks.nodes, 8, p, next, a.marks, 0, 0, 0, 0)
 }
 
 // `while`: its statements stand in a loop.
@@ -178,14 +169,10 @@ fn while_loop(
     let second = hand::word_from(s, first.next);
     let below = levels - 1;
     let g = plain::test(s, count, t, u, second, m, p, below);
-    let w = g.word;
-    let k = g.marks;
-    let body = hand::word_from(s, w.next);
-    let a = list(s, count, t, u, body, k, true, br, below);
-    let v = a.word;
-    let j = a.marks;
-    let next = hand::word_from(s, v.next);
-    written::finish(t, i, 7, p, next, j, g.root, 0, g.looks as u16, 0)
+    let body = hand::word_from(s, g.word.next);
+    let a = list(s, count, t, u, body, g.marks, true, br, below);
+    let next = hand::word_from(s, a.word.next);
+    written::finish(t, i, 7, p, next, a.marks, g.root, 0, g.looks as u16, 0)
 }
 
 // `if`, with or without `else`.
@@ -209,20 +196,15 @@ fn choice(
     let second = hand::word_from(s, first.next);
     let below = levels - 1;
     let g = plain::test(s, count, t, u, second, m, p, below);
-    let w = g.word;
-    let k = g.marks;
-    let a = list(s, count, t, u, w, k, lp, br, below);
-    let v = a.word;
-    let j = a.marks;
-    let next = hand::word_from(s, v.next);
-    if v.kind != 42 {
-        return written::finish(t, i, 6, p, next, j, g.root, j.nodes, g.looks as u16, 0);
+    let a = list(s, count, t, u, g.word, g.marks, lp, br, below);
+    let j = a.marks.nodes;
+    let next = hand::word_from(s, a.word.next);
+    if a.word.kind != 42 {
+        return written::finish(t, i, 6, p, next, a.marks, g.root, j, g.looks as u16, 0);
     }
-    let b = list(s, count, t, u, next, j, lp, br, below);
-    let x = b.word;
-    let q = b.marks;
-    let end = hand::word_from(s, x.next);
-    written::finish(t, i, 6, p, end, q, g.root, j.nodes, g.looks as u16, 0)
+    let b = list(s, count, t, u, next, a.marks, lp, br, below);
+    let end = hand::word_from(s, b.word.next);
+    written::finish(t, i, 6, p, end, b.marks, g.root, j, g.looks as u16, 0)
 }
 
 // `switch`: a case, the cases behind it, and the default.
@@ -239,24 +221,17 @@ fn switch(
     requires { ⌜ (0 < levels) × Ready (now s) (beside (now t)) count levels first ⌝ }
     ensures { λ r. ⌜ ((b : Bool) → RowCame (now (s .entry)) (beside (now (t .entry)) .names) count u levels lp b 10 first marks (now (t .entry)) (now (t .exit)) r) ⌝ }
 {
-    let i = marks.nodes;
     let p = items::told(u, first.place);
     let m = items::noted::begun(marks, p);
     let second = hand::word_from(s, first.next);
     let below = levels - 1;
     let a = one_case(s, count, t, u, second, m, lp, below);
-    let v = a.word;
-    let k = a.marks;
-    let c = cases(s, count, t, u, v, k, lp, below);
-    let w = c.word;
-    let j = c.marks;
-    let colon = hand::word_from(s, w.next);
+    let c = cases(s, count, t, u, a.word, a.marks, lp, below);
+    let colon = hand::word_from(s, c.word.next);
     let last = hand::word_from(s, colon.next);
-    let z = list(s, count, t, u, last, j, lp, true, below);
-    let x = z.word;
-    let q = z.marks;
-    let next = hand::word_from(s, x.next);
-    written::finish(t, i, 11, p, next, q, 0, 0, 0, 0)
+    let z = list(s, count, t, u, last, c.marks, lp, true, below);
+    let next = hand::word_from(s, z.word.next);
+    written::finish(t, marks.nodes, 11, p, next, z.marks, 0, 0, 0, 0)
 }
 
 // `parallel`: two branches, and those behind them.
@@ -273,25 +248,18 @@ fn parallel(
     requires { ⌜ (0 < levels) × Ready (now s) (beside (now t)) count levels first ⌝ }
     ensures { λ r. ⌜ ((b : Bool) → RowCame (now (s .entry)) (beside (now (t .entry)) .names) count u levels lp b 12 first marks (now (t .entry)) (now (t .exit)) r) ⌝ }
 {
-    let i = marks.nodes;
     let p = items::told(u, first.place);
     let m = items::noted::begun(marks, p);
     let second = hand::word_from(s, first.next);
     let below = levels - 1;
     let o = items::noted::with_acts(m, 0);
     let a = branch(s, count, t, u, second, o, lp, below);
-    let v = a.word;
-    let k = a.marks;
-    let other = hand::word_from(s, v.next);
-    let b = branch(s, count, t, u, other, k, lp, below);
-    let w = b.word;
-    let j = b.marks;
-    let c = branches(s, count, t, u, w, j, lp, below);
-    let x = c.word;
-    let q = c.marks;
-    let next = hand::word_from(s, x.next);
-    let n = items::noted::together(q, marks.acts, p);
-    written::finish(t, i, 12, p, next, n, 0, 0, 0, 0)
+    let other = hand::word_from(s, a.word.next);
+    let b = branch(s, count, t, u, other, a.marks, lp, below);
+    let c = branches(s, count, t, u, b.word, b.marks, lp, below);
+    let next = hand::word_from(s, c.word.next);
+    let n = items::noted::together(c.marks, marks.acts, p);
+    written::finish(t, marks.nodes, 12, p, next, n, 0, 0, 0, 0)
 }
 
 // A list of statements.
@@ -311,16 +279,14 @@ pub fn list(
 {
     let mut at = stmt(s, count, t, u, first, marks, lp, br, levels);
     loop {
-        let w = at.word;
-        let k = at.marks;
-        if w.kind != 12 {
+        if at.word.kind != 12 {
             return at;
         }
-        let v = hand::word_from(s, w.next);
+        let v = hand::word_from(s, at.word.next);
         if items::rows::statement_row(v.kind) == 13 {
-            return items::made(v, k);
+            return items::made(v, at.marks);
         }
-        at = stmt(s, count, t, u, v, k, lp, br, levels);
+        at = stmt(s, count, t, u, v, at.marks, lp, br, levels);
     }
 }
 
@@ -343,12 +309,9 @@ fn one_case(
     let m = items::noted::cased(marks);
     let second = hand::word_from(s, first.next);
     let g = plain::test(s, count, t, u, second, m, p, levels);
-    let w = g.word;
-    let k = g.marks;
-    let a = list(s, count, t, u, w, k, lp, true, levels);
-    let v = a.word;
-    let j = a.marks;
-    written::finish(t, i, 13, p, v, j, g.root, j.nodes, g.looks as u16, 0)
+    let a = list(s, count, t, u, g.word, g.marks, lp, true, levels);
+    let j = a.marks.nodes;
+    written::finish(t, i, 13, p, a.word, a.marks, g.root, j, g.looks as u16, 0)
 }
 
 // Cases, as long as there are any.
@@ -367,12 +330,10 @@ fn cases(
 {
     let mut at = items::made(first, marks);
     loop {
-        let w = at.word;
-        let k = at.marks;
-        if w.kind != 50 {
+        if at.word.kind != 50 {
             return at;
         }
-        at = one_case(s, count, t, u, w, k, lp, levels);
+        at = one_case(s, count, t, u, at.word, at.marks, lp, levels);
     }
 }
 
@@ -411,13 +372,11 @@ fn branches(
 {
     let mut at = items::made(first, marks);
     loop {
-        let w = at.word;
-        let k = at.marks;
-        if w.kind != 2 {
+        if at.word.kind != 2 {
             return at;
         }
-        let v = hand::word_from(s, w.next);
-        at = branch(s, count, t, u, v, k, lp, levels);
+        let v = hand::word_from(s, at.word.next);
+        at = branch(s, count, t, u, v, at.marks, lp, levels);
     }
 }
 

@@ -1,27 +1,27 @@
 -- What a tally says of an outermost call, and what is certain before a call is entered.
 -- Assumes nothing.
-use mathlib.Core.Bool.{Bool, true, false, cond, not as opposite}
+use mathlib.Core.Bool.{Bool, true, false, cond}
 use mathlib.Core.Path.{_≡_, refl, sym, ap, _∙_}
-use mathlib.Core.List.{List, [], _∷_, _++_}
 use Prim.Native.Nat.{ℕ, _+_, _≤_, min, max}
 use native.Mathlib.Omega.{arith}
 use borrow.Author.Tests.{le-ltb, leb-true}
-use lib.Dec.{ltb, leb}
+use lib.Dec.{leb}
 use Rattle.meaning.specs.Clock.{activities, activitiesAll}
-use Rattle.meaning.specs.Sizes.{mostStatements, itemSize, statementsOver, partsOver, countFaults, bodySizes}
-use Rattle.meaning.specs.Levels.{levelFaults}
-use Rattle.meaning.specs.Names.{gather}
+use Rattle.meaning.specs.Kinds.{both}
+use Rattle.meaning.specs.Sizes.{mostStatements, mostParts}
+use Rattle.meaning.specs.Levels.{mostLevels}
 use Rattle.meaning.specs.Items.{itemsAll}
 use Rattle.meaning.specs.Unexpanded.{Command, skip, delay, change, assign, choice, while, loop, exit, break, switch, parallel, call, passing, Commands, end, _⨾_}
 use Rattle.meaning.specs.Base.{base, baseAll}
-use Rattle.meaning.specs.Expansion.{followedBy, sizesPassed}
+use Rattle.meaning.specs.Expansion.{followedBy}
 use Rattle.own_law.specs.Own.{Own, nothing, past, begun, ownCommand, ownAll}
-use Rattle.own_law.proofs.Borne.{made, isNone, none-both, often}
-use Rattle.own_law.proofs.Own.{over-stays, own-exactly, counts-exactly}
+use Rattle.own_law.proofs.Borne.{bears, made, often}
+use Rattle.own_law.proofs.Own.{statementsIn, partsIn, all-adds, over-stays, nothing-sound}
+use Rattle.own_law.proofs.Around.{around, counts-around}
 use Rattle.own_law.proofs.Early.{closed-stays, opened-stays, large-stays, term-stays, all-stay, tests-stay, each-stay}
 use Rattle.own_law.proofs.Calls.{own-joined}
 use Rattle.tally.specs.declared.Tally.{Tally}
-use Rattle.tally.specs.Tally.{fullTally, noneLeft, overTally}
+use Rattle.tally.specs.Tally.{mostCounted, fullTally, noneLeft, overTally}
 use Rattle.tally.specs.Holds.{State, atStart, countsOf, overAll, Holds}
 use Rattle.tally.proofs.Steps.{over-on, full-holds}
 
@@ -89,47 +89,40 @@ module _ {k : ℕ} {m : Tally} {x : State} (h : Holds k m x) where
 
 -- ---- an outermost call
 
-counts-first : (l m n : List ℕ) → isNone (l ++ m) ≡ false → isNone (l ++ (m ++ n)) ≡ false
-counts-first [] [] n e = absurd (let z : _≡_ {A = ℕ} 0 1 = cc in omega arith)
-counts-first [] (p ∷ m) n e = refl
-counts-first (p ∷ l) m n e = refl
+-- P14: statements and parts are counted alike, whatever levels are open around
+levels-aside : (v : Commands) (n : ℕ) → ownAll false v (around n) .over ≡ ownAll false v nothing .over
+unfolding bears
+levels-aside v n =
+    ap (λ (o : Own). o .over) (all-adds false v .to (around n) refl)
+    ∙ by (both (leb (0 + statementsIn (itemsAll (baseAll v))) mostStatements) (leb (0 + partsIn (itemsAll (baseAll v))) mostParts))
+    ∙ sym (ap (λ (o : Own). o .over) (all-adds false v .to nothing (nothing-sound false)))
+  where
+    by : (b : Bool) → cond (both b true) (made (0 + statementsIn (itemsAll (baseAll v))) (0 + partsIn (itemsAll (baseAll v))) n false) past .over ≡ cond (both b true) (made (0 + statementsIn (itemsAll (baseAll v))) (0 + partsIn (itemsAll (baseAll v))) 0 false) past .over
+    by true = refl
+    by false = refl
 
-front : (l m : List ℕ) → isNone l ≡ false → isNone (l ++ m) ≡ false
-front [] m e = absurd (let z : _≡_ {A = ℕ} 0 1 = cc in omega arith)
-front (p ∷ l) m e = refl
+module _ (v : Commands) (n : ℕ) {r : Tally} (h : Holds n r (overAll v (atStart n))) where
+  -- P14: whether a statement or a part is too many
+  pub told-counts : r .passed ≡ ownAll false v nothing .over
+  told-counts = by (r .passed) refl ∙ levels-aside v n
+    where
+      by : (b : Bool) → r .passed ≡ b → b ≡ ownAll false v (around n) .over
+      by true e = sym (h .over e)
+      by false e = sym (ap (λ (o : Own). o .over) (h .exact e .counts))
 
-opposite-back : (b : Bool) → opposite b ≡ true → b ≡ false
-opposite-back true e = sym e
-opposite-back false e = refl
+  -- P12, P13: whether a size is passed with these levels open around
+  pub told-every : n ≤ mostLevels → overTally r ≡ ownAll true v (around n) .over
+  unfolding overTally
+  told-every few = by (r .passed) refl
+    where
+      if-large : (l : Bool) → l ≡ cond l past (countsOf n r) .over
+      if-large true = refl
+      if-large false = refl
 
-module _ (v : Commands) where
-  -- P13: a statement or a part too many is a size that is passed
-  counts-every : ownAll false v nothing .over ≡ true → ownAll true v nothing .over ≡ true
-  counts-every e =
-      own-exactly v ∙ ap opposite (front (bodySizes (baseAll v)) (levelFaults 0 v) (counts-first (statementsOver (baseAll v)) (partsOver (baseAll v)) (gather itemSize (itemsAll (baseAll v))) (opposite-back (isNone (countFaults (baseAll v))) (sym (counts-exactly v) ∙ e))))
+      by : (b : Bool) → r .passed ≡ b → cond b true (r .large) ≡ ownAll true v (around n) .over
+      by true e = sym (counts-around v n few (h .over e))
+      by false e = if-large (r .large) ∙ sym (ap (λ (o : Own). o .over) (h .exact e .every))
 
-  module _ {r : Tally} (h : Holds 0 r (overAll v atStart)) where
-    -- P14: whether a statement or a part is too many
-    pub told-counts : r .passed ≡ ownAll false v nothing .over
-    told-counts = by (r .passed) refl
-      where
-        by : (b : Bool) → r .passed ≡ b → b ≡ ownAll false v nothing .over
-        by true e = sym (h .over e)
-        by false e = sym (ap (λ (o : Own). o .over) (h .exact e .counts))
-
-    -- P13: whether a size is passed
-    pub told-every : overTally r ≡ ownAll true v nothing .over
-    unfolding overTally
-    told-every = by (r .passed) refl
-      where
-        if-large : (l : Bool) → l ≡ cond l past (countsOf 0 r) .over
-        if-large true = refl
-        if-large false = refl
-
-        by : (b : Bool) → r .passed ≡ b → cond b true (r .large) ≡ ownAll true v nothing .over
-        by true e = sym (counts-every (h .over e))
-        by false e = if-large (r .large) ∙ sym (ap (λ (o : Own). o .over) (h .exact e .every))
-
-    -- P14: the activities, if they are not more than the code counts
-    pub exact-acts : r .passed ≡ false → r .acts ≡ min (activitiesAll (baseAll v)) 256
-    exact-acts e = h .exact e .acts ∙ omega (arith, acts-some v)
+  -- P14: the activities, if they are not more than the code counts
+  pub exact-acts : r .passed ≡ false → r .acts ≡ min (activitiesAll (baseAll v)) mostCounted
+  exact-acts e = h .exact e .acts ∙ omega (arith, acts-some v)

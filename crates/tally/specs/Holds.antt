@@ -2,15 +2,14 @@
 -- Assumes nothing.
 use mathlib.Core.Bool.{Bool, true, false, cond}
 use mathlib.Core.Path.{_≡_}
-use Prim.Native.Nat.{ℕ, suc, _+_, _≤_, min, max}
-use lib.Dec.{ltb}
+use Prim.Native.Nat.{ℕ, _+_, _≤_, min, max}
 use Rattle.meaning.specs.Clock.{activitiesAll, activitiesCases, activitiesSum}
-use Rattle.meaning.specs.Sizes.{mostStatements, mostParts, mostDelay}
-use Rattle.meaning.specs.States.{mostActivities}
+use Rattle.meaning.specs.Sizes.{mostStatements, mostParts}
 use Rattle.meaning.specs.Levels.{mostLevels}
-use Rattle.meaning.specs.Unexpanded.{Term, Commands, Tests, Strands}
+use Rattle.meaning.specs.Unexpanded.{Commands, Tests, Strands}
 use Rattle.meaning.specs.Base.{baseAll, baseTests, baseEach}
-use Rattle.own_law.specs.Own.{Own, nothing, past, begun, closed, opened, ifLarge, ownTerm, ownAll, ownTests, ownEach}
+use Rattle.own_law.specs.Own.{Own, past, ownAll, ownTests, ownEach}
+use Rattle.own_law.proofs.Around.{around}
 use Rattle.tally.specs.declared.Tally.{Tally}
 use Rattle.tally.specs.Tally.{mostCounted}
 
@@ -20,9 +19,9 @@ pub record State : Type 0 where
   pub counts : Own
   pub acts : ℕ
 
--- at the outermost call
-abbrev pub atStart : State
-atStart = record { every = nothing; counts = nothing; acts = 1 }
+-- at the outermost call, with n levels open around
+abbrev pub atStart : ℕ → State
+atStart n = record { every = around n; counts = around n; acts = 1 }
 
 -- ---- what the counts come to
 

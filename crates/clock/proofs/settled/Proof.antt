@@ -1,18 +1,14 @@
-use mathlib.Core.Path.{_≡_, refl, sym, ap, _∙_}
-use borrow.Author.Tests.{lt-ltb, le-ltb}
+use Rattle.clock.proofs.Laws.{word-stays, word-tried}
 use Rattle.runs.specs.Buffer.{onesIn, zerosIn}
 use borrow.Author.Needs.{needs}
 use Rattle.clock.proofs.settled.Statement.{statement}
 use Rattle.clock.proofs.settled.Tie as tie
-use Rattle.clock.proofs.settled.Reads as reads
-use Rattle.clock.proofs.settled.Lts as lts
-use Rattle.clock.proofs.entries.Reads as entries-reads
 
 entries-requires : tie.Need-entries-requires
 entries-requires c κs = search needs
 
 returns : tie.Need-returns
-returns c = rw (lt-ltb _ _ (c .before .if1 .taken), c .entries .ensures)
+returns c = word-stays _ _ _ (c .entries .ensures) (c .before .if1 .taken)
 
 element-copy-out-set : tie.Need-element-copy-out-set
 element-copy-out-set c = search needs
@@ -25,7 +21,7 @@ element-copy-out-t9 c = search needs
 
 returns-2 : tie.Need-returns-2
 unfolding onesIn zerosIn
-returns-2 c = rw (le-ltb _ _ (c .before .before .before .if1 .left), c .before .entries2 .ensures)
+returns-2 c = word-tried _ _ _ (c .before .entries2 .ensures) (c .before .before .before .if1 .left)
 
 pub settled-spec : {M : Type 1} → statement M
 settled-spec =

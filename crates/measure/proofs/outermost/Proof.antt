@@ -25,8 +25,11 @@ same-length c = on-long (c .before .before .before .before .before .call .ensure
 
 returns : tie.Need-returns
 returns c =
-    let p = c .before .before .before .before .before .before .before .before .before .before .before .pre in
-    outermost-came (p .0) (p .1) (p .2) (c .before .before .before .before .before .before .start .ensures) (c .before .before .before .before .before .before .before .inside .ensures) (c .over .ensures) (c .before .before .before .before .before .call .ensures) refl
+    let k = c .before .before .before .before .before in
+    let k₁ = k .before in
+    let k₂ = k₁ .before .before in
+    let p = k₂ .before .before .before .pre in
+    outermost-came (p .3) (p .0) (p .1) (p .2) (k₁ .start .ensures) (k₂ .inside .ensures) (c .over .ensures) (k .call .ensures) refl
 
 pub outermost-spec : {M : Type 1} → statement M
 outermost-spec =

@@ -255,25 +255,25 @@ branches-loop-holds t c =
 branches-same-length : (t : ℕ) → branches-lts.Need-same-length (branches-calls t) (branches-at t) branches.Post branches-Inv-loop branches-μ-loop
 unfolding beside
 branches-same-length t c =
-    let k₁ = c .before .before .before .before in
+    let k₁ = c .before .before in
     same-size (k₁ .loop .inv .on .kept)
 
 branches-returns : (t : ℕ) → branches-lts.Need-returns (branches-calls t) (branches-at t) branches.Post branches-Inv-loop branches-μ-loop
 branches-returns t c =
-    let k₁ = c .before .before .before .before in
+    let k₁ = c .before .before in
     let k₂ = k₁ .before in
     branches-end (k₂ .made .ensures .0) (k₂ .made .ensures .1) (c .if1 .taken) (k₁ .loop .inv)
 
 branches-word-from-requires : (t : ℕ) → branches-lts.Need-word-from-requires (branches-calls t) (branches-at t) branches.Post branches-Inv-loop branches-μ-loop
 branches-word-from-requires t c κs =
-    let k₁ = c .before .before .before .before in
+    let k₁ = c .before .before in
     let k₂ = k₁ .before .before .before .before in
     (k₂ .pre .1 .near .short, k₁ .loop .inv .on .near .inside)
 
 branches-branch-requires : (t : ℕ) → branches-lts.Need-branch-requires (branches-calls t) (branches-at t) branches.Post branches-Inv-loop branches-μ-loop
 branches-branch-requires t c κs =
     let k₁ = c .before in
-    let k₂ = k₁ .before .before .before .before .before in
+    let k₂ = k₁ .before .before .before in
     let k₃ = k₂ .before .before .before .before in
     (omega (arith, k₃ .pre .0), record { near = k₁ .word-from .ensures .near; listed = rw (k₂ .loop .inv .on .kept) (k₃ .pre .1 .listed); few = k₃ .pre .1 .few })
 
@@ -282,7 +282,7 @@ branches-loop-less t c =
     let k₁ = c .before .before in
     let k₂ = k₁ .before .before in
     let k₃ = k₂ .before in
-    let k₄ = k₃ .before .before .before .before in
+    let k₄ = k₃ .before .before in
     omega (arith, k₄ .loop .inv .on .near .more (omega (arith, k₃ .if1 .left)), k₂ .word-from .ensures .later, k₁ .branch .ensures .on .later, k₁ .branch .ensures .on .near .on, k₁ .branch .ensures .on .near .inside)
 
 branches-loop-again : (t : ℕ) → branches-lts.Need-loop-again (branches-calls t) (branches-at t) branches.Post branches-Inv-loop branches-μ-loop
@@ -290,7 +290,7 @@ branches-loop-again t c =
     let k₁ = c .before .before in
     let k₂ = k₁ .before .before in
     let k₃ = k₂ .before in
-    let k₄ = k₃ .before .before .before .before in
+    let k₄ = k₃ .before .before in
     branches-on (k₃ .if1 .left) (k₂ .word-from .ensures) (rw (k₄ .loop .inv .on .kept) at (k₁ .branch .ensures)) (k₄ .loop .inv)
 
 abbrev call-calls : ℕ → call-lts.Claims
@@ -303,8 +303,8 @@ call-enter-requires t c κs =
 
 call-list-requires : (t : ℕ) → call-lts.Need-list-requires (call-calls t) (call-at t) call.Post
 call-list-requires t c κs =
-    let k₁ = c .before .before .before in
-    let k₂ = k₁ .before .before .before .before in
+    let k₁ = c .before in
+    let k₂ = k₁ .before .before .before in
     let k₃ = k₂ .before .before .before .before in
     (omega (arith, k₃ .pre .0, wrote-frame (k₂ .enter .ensures) (k₁ .if1 .taken) .3), record { near = wrote-frame (k₂ .enter .ensures) (k₁ .if1 .taken) .1; listed = still-listed (k₂ .enter .ensures) (k₃ .pre .1 .listed); few = omega arith })
 
@@ -317,17 +317,17 @@ call-made-requires t c κs = search needs
 call-same-length : (t : ℕ) → call-lts.Need-same-length (call-calls t) (call-at t) call.Post
 unfolding beside
 call-same-length t c =
-    let k₁ = c .before .before .before .before in
+    let k₁ = c .before .before .before in
     let k₂ = k₁ .before .before .before .before in
-    let k₃ = k₂ .before .before .before .before .before .before .before .before in
+    let k₃ = k₂ .before .before .before .before .before in
     ap (λ (d : Beside). d .size) (k₁ .clear .ensures .behind) ∙ same-size (k₂ .list .ensures .on .kept) ∙ k₃ .enter .ensures .size
 
 call-returns : (t : ℕ) → call-lts.Need-returns (call-calls t) (call-at t) call.Post
 call-returns t c =
-    let k₁ = c .before .before .before .before in
+    let k₁ = c .before .before .before in
     let k₂ = k₁ .before .before .before .before in
-    let k₃ = k₂ .before .before .before .before in
-    let k₄ = k₃ .before .before .before .before in
+    let k₃ = k₂ .before .before in
+    let k₄ = k₃ .before .before .before in
     let k₅ = k₄ .before .before .before .before in
     call-expanded (k₅ .pre .1 .near) (k₅ .pre .1 .listed) (k₄ .enter .ensures) (k₃ .if1 .taken) (k₂ .list .ensures) (k₁ .clear .ensures) (c .made .ensures .0) (c .made .ensures .1)
 
@@ -339,14 +339,14 @@ unfolding beside
 call-same-length-2 t c =
     let k₁ = c .before .before in
     let k₂ = k₁ .before .before in
-    let k₃ = k₂ .before .before .before .before in
+    let k₃ = k₂ .before .before .before in
     same-size (k₁ .refused .ensures .kept) ∙ same-size (ap beside (wrote-none (k₃ .enter .ensures) (k₂ .if1 .left)))
 
 call-returns-2 : (t : ℕ) → call-lts.Need-returns-2 (call-calls t) (call-at t) call.Post
 call-returns-2 t c =
     let k₁ = c .before .before in
     let k₂ = k₁ .before .before in
-    let k₃ = k₂ .before .before .before .before in
+    let k₃ = k₂ .before .before .before in
     let k₄ = k₃ .before .before .before .before in
     call-refused (k₄ .pre .1 .near) (k₃ .enter .ensures) (k₂ .if1 .left) (k₁ .refused .ensures)
 
@@ -370,18 +370,18 @@ cases-loop-holds t c =
 cases-same-length : (t : ℕ) → cases-lts.Need-same-length (cases-calls t) (cases-at t) cases.Post cases-Inv-loop cases-μ-loop
 unfolding beside
 cases-same-length t c =
-    let k₁ = c .before .before .before .before in
+    let k₁ = c .before .before in
     same-size (k₁ .loop .inv .on .kept)
 
 cases-returns : (t : ℕ) → cases-lts.Need-returns (cases-calls t) (cases-at t) cases.Post cases-Inv-loop cases-μ-loop
 cases-returns t c =
-    let k₁ = c .before .before .before .before in
+    let k₁ = c .before .before in
     let k₂ = k₁ .before in
     cases-end (k₂ .made .ensures .0) (k₂ .made .ensures .1) (c .if1 .taken) (k₁ .loop .inv)
 
 cases-one-case-requires : (t : ℕ) → cases-lts.Need-one-case-requires (cases-calls t) (cases-at t) cases.Post cases-Inv-loop cases-μ-loop
 cases-one-case-requires t c κs =
-    let k₁ = c .before .before .before .before .before in
+    let k₁ = c .before .before .before in
     let k₂ = k₁ .before .before .before .before in
     (omega (arith, k₂ .pre .0), record { near = k₁ .loop .inv .on .near; listed = rw (k₁ .loop .inv .on .kept) (k₂ .pre .1 .listed); few = k₂ .pre .1 .few })
 
@@ -389,14 +389,14 @@ cases-loop-less : (t : ℕ) → cases-lts.Need-loop-less (cases-calls t) (cases-
 cases-loop-less t c =
     let k₁ = c .before .before in
     let k₂ = k₁ .before .before in
-    let k₃ = k₂ .before .before .before .before in
+    let k₃ = k₂ .before .before in
     omega (arith, k₃ .loop .inv .on .near .more (omega (arith, k₂ .if1 .left)), k₁ .one-case .ensures .past, k₁ .one-case .ensures .on .near .on, k₁ .one-case .ensures .on .near .inside)
 
 cases-loop-again : (t : ℕ) → cases-lts.Need-loop-again (cases-calls t) (cases-at t) cases.Post cases-Inv-loop cases-μ-loop
 cases-loop-again t c =
     let k₁ = c .before .before in
     let k₂ = k₁ .before .before in
-    let k₃ = k₂ .before .before .before .before in
+    let k₃ = k₂ .before .before in
     cases-on (k₂ .if1 .left) (rw (k₃ .loop .inv .on .kept) at (k₁ .one-case .ensures)) (k₃ .loop .inv)
 
 abbrev choice-calls : ℕ → choice-lts.Claims
@@ -426,14 +426,14 @@ choice-test-requires t c κs =
 
 choice-list-requires : (t : ℕ) → choice-lts.Need-list-requires (choice-calls t) (choice-at t) choice.Post
 choice-list-requires t c κs =
-    let k₁ = c .before .before .before .before .before in
+    let k₁ = c .before .before .before in
     let k₂ = k₁ .before .before .before .before .before .before .before in
     (omega (arith, k₂ .pre .0, k₂ .pre .1 .0), record { near = k₁ .test .ensures .on .near; listed = rw (k₁ .test .ensures .on .kept) (k₂ .pre .1 .1 .listed); few = omega (arith, k₂ .pre .1 .1 .few) })
 
 choice-word-from-requires-2 : (t : ℕ) → choice-lts.Need-word-from-requires-2 (choice-calls t) (choice-at t) choice.Post
 choice-word-from-requires-2 t c κs =
-    let k₁ = c .before .before .before .before in
-    let k₂ = k₁ .before .before .before .before .before .before .before .before .before .before .before .before .before in
+    let k₁ = c .before .before in
+    let k₂ = k₁ .before .before .before .before .before .before .before .before .before .before .before in
     (k₂ .pre .1 .1 .near .short, k₁ .list .ensures .on .near .inside)
 
 choice-cast-finish : (t : ℕ) → choice-lts.Need-cast-finish (choice-calls t) (choice-at t) choice.Post
@@ -446,8 +446,8 @@ choice-same-length : (t : ℕ) → choice-lts.Need-same-length (choice-calls t) 
 unfolding beside
 choice-same-length t c =
     let k₁ = c .before .before in
-    let k₂ = k₁ .before .before .before .before .before .before .before .before .before .before in
-    let k₃ = k₂ .before .before .before .before .before .before in
+    let k₂ = k₁ .before .before .before .before .before .before .before .before in
+    let k₃ = k₂ .before .before .before .before in
     same-size (k₁ .finish .ensures .kept ∙ k₂ .list .ensures .on .kept ∙ k₃ .test .ensures .on .kept)
 
 choice-returns : (t : ℕ) → choice-lts.Need-returns (choice-calls t) (choice-at t) choice.Post
@@ -455,8 +455,8 @@ choice-returns t c =
     let k₁ = c .before .before in
     let k₂ = k₁ .before .before .before in
     let k₃ = k₂ .before .before in
-    let k₄ = k₃ .before .before .before .before .before in
-    let k₅ = k₄ .before .before .before .before .before .before in
+    let k₄ = k₃ .before .before .before in
+    let k₅ = k₄ .before .before .before .before in
     let k₆ = k₅ .before .before in
     let k₇ = k₆ .before in
     let k₈ = k₇ .before in
@@ -466,15 +466,15 @@ choice-returns t c =
 choice-list-requires-2 : (t : ℕ) → choice-lts.Need-list-requires-2 (choice-calls t) (choice-at t) choice.Post
 choice-list-requires-2 t c κs =
     let k₁ = c .before .before .before in
-    let k₂ = k₁ .before .before .before .before .before in
-    let k₃ = k₂ .before .before .before .before .before .before in
+    let k₂ = k₁ .before .before .before in
+    let k₃ = k₂ .before .before .before .before in
     let k₄ = k₃ .before .before .before .before .before .before .before in
     (omega (arith, k₄ .pre .0, k₄ .pre .1 .0), record { near = k₁ .word-from2 .ensures .near; listed = rw (k₂ .list .ensures .on .kept ∙ k₃ .test .ensures .on .kept) (k₄ .pre .1 .1 .listed); few = omega (arith, k₄ .pre .1 .1 .few) })
 
 choice-word-from-requires-3 : (t : ℕ) → choice-lts.Need-word-from-requires-3 (choice-calls t) (choice-at t) choice.Post
 choice-word-from-requires-3 t c κs =
-    let k₁ = c .before .before .before .before in
-    let k₂ = k₁ .before .before .before .before .before .before .before .before .before .before .before .before .before .before .before .before .before .before .before .before .before .before in
+    let k₁ = c .before .before in
+    let k₂ = k₁ .before .before .before .before .before .before .before .before .before .before .before .before .before .before .before .before .before .before in
     (k₂ .pre .1 .1 .near .short, k₁ .list2 .ensures .on .near .inside)
 
 choice-cast-finish-2 : (t : ℕ) → choice-lts.Need-cast-finish-2 (choice-calls t) (choice-at t) choice.Post
@@ -487,20 +487,20 @@ choice-same-length-2 : (t : ℕ) → choice-lts.Need-same-length-2 (choice-calls
 unfolding beside
 choice-same-length-2 t c =
     let k₁ = c .before .before in
-    let k₂ = k₁ .before .before .before .before .before .before .before .before in
-    let k₃ = k₂ .before .before .before .before .before .before .before .before .before in
-    let k₄ = k₃ .before .before .before .before .before .before in
+    let k₂ = k₁ .before .before .before .before .before .before in
+    let k₃ = k₂ .before .before .before .before .before .before .before in
+    let k₄ = k₃ .before .before .before .before in
     same-size (k₁ .finish2 .ensures .kept ∙ k₂ .list2 .ensures .on .kept ∙ k₃ .list .ensures .on .kept ∙ k₄ .test .ensures .on .kept)
 
 choice-returns-2 : (t : ℕ) → choice-lts.Need-returns-2 (choice-calls t) (choice-at t) choice.Post
 choice-returns-2 t c =
     let k₁ = c .before .before in
     let k₂ = k₁ .before .before .before in
-    let k₃ = k₂ .before .before .before .before .before in
+    let k₃ = k₂ .before .before .before in
     let k₄ = k₃ .before .before in
     let k₅ = k₄ .before .before in
-    let k₆ = k₅ .before .before .before .before .before in
-    let k₇ = k₆ .before .before .before .before .before .before in
+    let k₆ = k₅ .before .before .before in
+    let k₇ = k₆ .before .before .before .before in
     let k₈ = k₇ .before .before in
     let k₉ = k₈ .before in
     let k₁₀ = k₉ .before in
@@ -529,19 +529,19 @@ list-loop-holds t c =
 list-same-length : (t : ℕ) → list-lts.Need-same-length (list-calls t) (list-at t) list.Post list-Inv-loop list-μ-loop
 unfolding beside
 list-same-length t c =
-    let k₁ = c .before .before .before .before in
+    let k₁ = c .before .before in
     let k₂ = k₁ .before .before .before in
     same-size (k₁ .loop .inv .on .kept ∙ k₂ .stmt .ensures .on .kept)
 
 list-returns : (t : ℕ) → list-lts.Need-returns (list-calls t) (list-at t) list.Post list-Inv-loop list-μ-loop
 list-returns t c =
-    let k₁ = c .before .before .before .before in
+    let k₁ = c .before .before in
     let k₂ = k₁ .before .before .before in
     list-ends (k₂ .stmt .ensures) (rw (k₂ .stmt .ensures .on .kept) at (k₁ .loop .inv)) (c .if1 .taken)
 
 list-word-from-requires : (t : ℕ) → list-lts.Need-word-from-requires (list-calls t) (list-at t) list.Post list-Inv-loop list-μ-loop
 list-word-from-requires t c κs =
-    let k₁ = c .before .before .before .before in
+    let k₁ = c .before .before in
     let k₂ = k₁ .before .before .before .before .before .before .before in
     (k₂ .pre .1 .near .short, k₁ .loop .inv .on .near .inside)
 
@@ -554,7 +554,7 @@ list-made-requires t c κs = search needs
 list-same-length-2 : (t : ℕ) → list-lts.Need-same-length-2 (list-calls t) (list-at t) list.Post list-Inv-loop list-μ-loop
 unfolding beside
 list-same-length-2 t c =
-    let k₁ = c .before .before .before .before .before .before .before .before in
+    let k₁ = c .before .before .before .before .before .before in
     let k₂ = k₁ .before .before .before in
     same-size (k₁ .loop .inv .on .kept ∙ k₂ .stmt .ensures .on .kept)
 
@@ -564,14 +564,14 @@ list-returns-2 t c =
     let k₂ = k₁ .before in
     let k₃ = k₂ .before in
     let k₄ = k₃ .before in
-    let k₅ = k₄ .before .before .before .before in
+    let k₅ = k₄ .before .before in
     let k₆ = k₅ .before .before .before in
     list-spare (k₆ .stmt .ensures) (rw (k₆ .stmt .ensures .on .kept) at (k₅ .loop .inv)) (k₄ .if1 .left) (k₃ .word-from .ensures) (sym (k₂ .statement-row .ensures) ∙ k₁ .if2 .taken) (c .made .ensures .0) (c .made .ensures .1)
 
 list-stmt-requires-2 : (t : ℕ) → list-lts.Need-stmt-requires-2 (list-calls t) (list-at t) list.Post list-Inv-loop list-μ-loop
 list-stmt-requires-2 t c κs =
     let k₁ = c .before .before .before in
-    let k₂ = k₁ .before .before .before .before .before in
+    let k₂ = k₁ .before .before .before in
     let k₃ = k₂ .before .before .before in
     let k₄ = k₃ .before .before .before .before in
     (omega (arith, k₄ .pre .0), record { near = k₁ .word-from .ensures .near; listed = rw (k₂ .loop .inv .on .kept ∙ k₃ .stmt .ensures .on .kept) (k₄ .pre .1 .listed); few = k₄ .pre .1 .few })
@@ -581,7 +581,7 @@ list-loop-less t c =
     let k₁ = c .before .before in
     let k₂ = k₁ .before .before .before .before in
     let k₃ = k₂ .before in
-    let k₄ = k₃ .before .before .before .before in
+    let k₄ = k₃ .before .before in
     omega (arith, k₄ .loop .inv .on .near .more (omega (arith, k₃ .if1 .left)), k₂ .word-from .ensures .later, k₁ .stmt2 .ensures .on .later, k₁ .stmt2 .ensures .on .near .on, k₁ .stmt2 .ensures .on .near .inside)
 
 list-loop-again : (t : ℕ) → list-lts.Need-loop-again (list-calls t) (list-at t) list.Post list-Inv-loop list-μ-loop
@@ -591,7 +591,7 @@ list-loop-again t c =
     let k₃ = k₂ .before in
     let k₄ = k₃ .before in
     let k₅ = k₄ .before in
-    let k₆ = k₅ .before .before .before .before in
+    let k₆ = k₅ .before .before in
     list-on (k₅ .if1 .left) (k₄ .word-from .ensures) (λ e. k₂ .if2 .left (k₃ .statement-row .ensures ∙ e)) (rw (k₆ .loop .inv .on .kept) at (k₁ .stmt2 .ensures)) (k₆ .loop .inv)
 
 abbrev loop-always-calls : ℕ → loop-always-lts.Claims
@@ -621,7 +621,7 @@ loop-always-list-requires t c κs =
 
 loop-always-word-from-requires-2 : (t : ℕ) → loop-always-lts.Need-word-from-requires-2 (loop-always-calls t) (loop-always-at t) loop-always.Post
 loop-always-word-from-requires-2 t c κs =
-    let k₁ = c .before .before .before .before in
+    let k₁ = c .before .before in
     let k₂ = k₁ .before .before .before .before .before .before .before in
     (k₂ .pre .1 .1 .near .short, k₁ .list .ensures .on .near .inside)
 
@@ -632,14 +632,14 @@ loop-always-same-length : (t : ℕ) → loop-always-lts.Need-same-length (loop-a
 unfolding beside
 loop-always-same-length t c =
     let k₁ = c .before .before in
-    let k₂ = k₁ .before .before .before .before .before .before .before in
+    let k₂ = k₁ .before .before .before .before .before in
     same-size (k₁ .finish .ensures .kept ∙ k₂ .list .ensures .on .kept)
 
 loop-always-returns : (t : ℕ) → loop-always-lts.Need-returns (loop-always-calls t) (loop-always-at t) loop-always.Post
 loop-always-returns t c =
     let k₁ = c .before .before in
     let k₂ = k₁ .before .before in
-    let k₃ = k₂ .before .before .before .before .before in
+    let k₃ = k₂ .before .before .before in
     let k₄ = k₃ .before .before in
     let k₅ = k₄ .before in
     let k₆ = k₅ .before in
@@ -734,7 +734,7 @@ one-case-test-requires t c κs =
 
 one-case-list-requires : (t : ℕ) → one-case-lts.Need-list-requires (one-case-calls t) (one-case-at t) one-case.Post
 one-case-list-requires t c κs =
-    let k₁ = c .before .before .before .before .before in
+    let k₁ = c .before .before .before in
     let k₂ = k₁ .before .before .before .before .before .before .before in
     (omega (arith, k₂ .pre .0), record { near = k₁ .test .ensures .on .near; listed = rw (k₁ .test .ensures .on .kept) (k₂ .pre .1 .listed); few = k₂ .pre .1 .few })
 
@@ -748,15 +748,15 @@ one-case-same-length : (t : ℕ) → one-case-lts.Need-same-length (one-case-cal
 unfolding beside
 one-case-same-length t c =
     let k₁ = c .before .before in
-    let k₂ = k₁ .before .before .before .before .before .before .before in
-    let k₃ = k₂ .before .before .before .before .before .before in
+    let k₂ = k₁ .before .before .before .before .before in
+    let k₃ = k₂ .before .before .before .before in
     same-size (k₁ .finish .ensures .kept ∙ k₂ .list .ensures .on .kept ∙ k₃ .test .ensures .on .kept)
 
 one-case-returns : (t : ℕ) → one-case-lts.Need-returns (one-case-calls t) (one-case-at t) one-case.Post
 one-case-returns t c =
     let k₁ = c .before .before in
-    let k₂ = k₁ .before .before .before .before .before .before .before in
-    let k₃ = k₂ .before .before .before .before .before .before in
+    let k₂ = k₁ .before .before .before .before .before in
+    let k₃ = k₂ .before .before .before .before in
     let k₄ = k₃ .before .before in
     let k₅ = k₄ .before in
     let k₆ = k₅ .before in
@@ -786,21 +786,21 @@ outermost-same-length : (t : ℕ) → outermost-lts.Need-same-length (outermost-
 unfolding beside
 outermost-same-length t c =
     let k₁ = c .before .before in
-    let k₂ = k₁ .before .before .before .before .before .before in
+    let k₂ = k₁ .before .before .before .before .before in
     same-size (k₁ .passing .ensures .kept) ∙ same-size (ap beside (k₂ .measure .ensures .still))
 
 outermost-returns : (t : ℕ) → outermost-lts.Need-returns (outermost-calls t) (outermost-at t) outermost.Post
 outermost-returns t c =
     let k₁ = c .before .before in
     let k₂ = k₁ .before .before in
-    let k₃ = k₂ .before .before .before .before in
+    let k₃ = k₂ .before .before .before in
     let k₄ = k₃ .before .before in
     let k₅ = k₄ .before .before .before in
-    outermost-over (k₅ .pre .1 .near) (rw (k₄ .inside .ensures) at (k₃ .measure .ensures)) (k₂ .if1 .taken) (rw (k₄ .inside .ensures, k₃ .measure .ensures .still) at (k₁ .passing .ensures))
+    outermost-over (k₅ .pre .1 .near) (k₄ .inside .ensures) (k₃ .measure .ensures) refl (k₂ .if1 .taken) (k₁ .passing .ensures)
 
 outermost-call-requires : (t : ℕ) → outermost-lts.Need-call-requires (outermost-calls t) (outermost-at t) outermost.Post
 outermost-call-requires t c κs =
-    let k₁ = c .before .before .before .before .before in
+    let k₁ = c .before .before .before .before in
     let k₂ = k₁ .before .before in
     let k₃ = k₂ .before .before .before in
     (omega (arith, k₃ .pre .0, ap (λ (x : Under). x .seen) (k₂ .inside .ensures)), record { near = k₃ .pre .1 .near; listed = rw (k₁ .measure .ensures .still) (k₃ .pre .1 .listed); few = k₃ .pre .1 .few })
@@ -814,36 +814,36 @@ outermost-made-requires t c κs = search needs
 outermost-same-length-2 : (t : ℕ) → outermost-lts.Need-same-length-2 (outermost-calls t) (outermost-at t) outermost.Post
 unfolding beside
 outermost-same-length-2 t c =
-    let k₁ = c .before .before .before .before .before .before in
-    let k₂ = k₁ .before .before .before .before .before .before in
+    let k₁ = c .before .before .before .before .before in
+    let k₂ = k₁ .before .before .before .before .before in
     same-size (k₁ .call .ensures .on .kept) ∙ same-size (ap beside (k₂ .measure .ensures .still))
 
 outermost-returns-2 : (t : ℕ) → outermost-lts.Need-returns-2 (outermost-calls t) (outermost-at t) outermost.Post
 outermost-returns-2 t c =
     let k₁ = c .before in
-    let k₂ = k₁ .before .before in
+    let k₂ = k₁ .before in
     let k₃ = k₂ .before .before .before in
     let k₄ = k₃ .before .before in
-    let k₅ = k₄ .before .before .before .before in
+    let k₅ = k₄ .before .before .before in
     let k₆ = k₅ .before .before in
     let k₇ = k₆ .before .before .before in
-    outermost-deep (k₇ .pre .1 .near) (rw (k₆ .inside .ensures) at (k₅ .measure .ensures)) (k₄ .if1 .left) (rw (k₆ .inside .ensures, k₅ .measure .ensures .still) at (k₃ .call .ensures)) (k₂ .if2 .taken) (rw (k₆ .inside .ensures) at (k₁ .passing2 .ensures)) (c .made .ensures .0) (c .made .ensures .1)
+    outermost-deep (k₇ .pre .1 .near) (k₆ .inside .ensures) (k₅ .measure .ensures) refl (k₄ .if1 .left) (k₃ .call .ensures) (k₂ .if2 .taken) (k₁ .passing2 .ensures) (c .made .ensures .0) (c .made .ensures .1)
 
 outermost-same-length-3 : (t : ℕ) → outermost-lts.Need-same-length-3 (outermost-calls t) (outermost-at t) outermost.Post
 unfolding beside
 outermost-same-length-3 t c =
     let k₁ = c .before .before .before in
-    let k₂ = k₁ .before .before .before .before .before .before in
+    let k₂ = k₁ .before .before .before .before .before in
     same-size (k₁ .call .ensures .on .kept) ∙ same-size (ap beside (k₂ .measure .ensures .still))
 
 outermost-returns-3 : (t : ℕ) → outermost-lts.Need-returns-3 (outermost-calls t) (outermost-at t) outermost.Post
 outermost-returns-3 t c =
     let k₁ = c .before .before .before in
     let k₂ = k₁ .before .before in
-    let k₃ = k₂ .before .before .before .before in
+    let k₃ = k₂ .before .before .before in
     let k₄ = k₃ .before .before in
     let k₅ = k₄ .before .before .before in
-    outermost-flat (k₅ .pre .1 .near) (rw (k₄ .inside .ensures) at (k₃ .measure .ensures)) (k₂ .if1 .left) (rw (k₄ .inside .ensures, k₃ .measure .ensures .still) at (k₁ .call .ensures)) (c .if2 .left)
+    outermost-flat (k₅ .pre .1 .near) (k₄ .inside .ensures) (k₃ .measure .ensures) refl (k₂ .if1 .left) (k₁ .call .ensures) (c .if2 .left)
 
 abbrev parallel-calls : ℕ → parallel-lts.Claims
 parallel-calls t = (told-reads.Asked, told-reads.Learnt, begun-reads.Asked, begun-reads.Learnt, word-from-reads.Asked, word-from-reads.Learnt, with-acts-reads.Asked, with-acts-reads.Learnt, branch-below t, branch.Post, branches-below t, branches.Post, together-reads.Asked, together-reads.Learnt, finish-reads.Asked, finish-reads.Learnt)
@@ -875,28 +875,28 @@ parallel-branch-requires t c κs =
 
 parallel-word-from-requires-2 : (t : ℕ) → parallel-lts.Need-word-from-requires-2 (parallel-calls t) (parallel-at t) parallel.Post
 parallel-word-from-requires-2 t c κs =
-    let k₁ = c .before .before .before .before in
+    let k₁ = c .before .before in
     let k₂ = k₁ .before .before .before .before .before .before .before .before in
     (k₂ .pre .1 .1 .near .short, k₁ .branch .ensures .on .near .inside)
 
 parallel-branch-requires-2 : (t : ℕ) → parallel-lts.Need-branch-requires-2 (parallel-calls t) (parallel-at t) parallel.Post
 parallel-branch-requires-2 t c κs =
     let k₁ = c .before in
-    let k₂ = k₁ .before .before .before .before .before in
+    let k₂ = k₁ .before .before .before in
     let k₃ = k₂ .before .before .before .before .before .before .before .before in
     (omega (arith, k₃ .pre .0, k₃ .pre .1 .0), record { near = k₁ .word-from2 .ensures .near; listed = rw (k₂ .branch .ensures .on .kept) (k₃ .pre .1 .1 .listed); few = omega (arith, k₃ .pre .1 .1 .few) })
 
 parallel-branches-requires : (t : ℕ) → parallel-lts.Need-branches-requires (parallel-calls t) (parallel-at t) parallel.Post
 parallel-branches-requires t c κs =
-    let k₁ = c .before .before .before .before .before in
-    let k₂ = k₁ .before .before .before .before .before .before .before in
+    let k₁ = c .before .before .before in
+    let k₂ = k₁ .before .before .before .before .before in
     let k₃ = k₂ .before .before .before .before .before .before .before .before in
     (omega (arith, k₃ .pre .0, k₃ .pre .1 .0), record { near = k₁ .branch2 .ensures .on .near; listed = rw (k₁ .branch2 .ensures .on .kept ∙ k₂ .branch .ensures .on .kept) (k₃ .pre .1 .1 .listed); few = omega (arith, k₃ .pre .1 .1 .few) })
 
 parallel-word-from-requires-3 : (t : ℕ) → parallel-lts.Need-word-from-requires-3 (parallel-calls t) (parallel-at t) parallel.Post
 parallel-word-from-requires-3 t c κs =
-    let k₁ = c .before .before .before .before in
-    let k₂ = k₁ .before .before .before .before .before .before .before .before .before .before .before .before .before .before .before .before .before .before .before .before .before in
+    let k₁ = c .before .before in
+    let k₂ = k₁ .before .before .before .before .before .before .before .before .before .before .before .before .before .before .before .before .before in
     (k₂ .pre .1 .1 .near .short, k₁ .branches .ensures .on .near .inside)
 
 parallel-together-requires : (t : ℕ) → parallel-lts.Need-together-requires (parallel-calls t) (parallel-at t) parallel.Post
@@ -909,9 +909,9 @@ parallel-same-length : (t : ℕ) → parallel-lts.Need-same-length (parallel-cal
 unfolding beside
 parallel-same-length t c =
     let k₁ = c .before .before in
-    let k₂ = k₁ .before .before .before .before .before .before .before .before in
-    let k₃ = k₂ .before .before .before .before .before .before in
-    let k₄ = k₃ .before .before .before .before .before .before .before in
+    let k₂ = k₁ .before .before .before .before .before .before in
+    let k₃ = k₂ .before .before .before .before in
+    let k₄ = k₃ .before .before .before .before .before in
     same-size (k₁ .finish .ensures .kept ∙ k₂ .branches .ensures .on .kept ∙ k₃ .branch2 .ensures .on .kept ∙ k₄ .branch .ensures .on .kept)
 
 parallel-returns : (t : ℕ) → parallel-lts.Need-returns (parallel-calls t) (parallel-at t) parallel.Post
@@ -919,10 +919,10 @@ parallel-returns t c =
     let k₁ = c .before .before in
     let k₂ = k₁ .before .before in
     let k₃ = k₂ .before in
-    let k₄ = k₃ .before .before .before .before .before in
-    let k₅ = k₄ .before .before .before .before .before .before in
+    let k₄ = k₃ .before .before .before in
+    let k₅ = k₄ .before .before .before .before in
     let k₆ = k₅ .before .before in
-    let k₇ = k₆ .before .before .before .before .before in
+    let k₇ = k₆ .before .before .before in
     let k₈ = k₇ .before .before in
     let k₉ = k₈ .before in
     let k₁₀ = k₉ .before in
@@ -1117,33 +1117,33 @@ switch-one-case-requires t c κs =
 
 switch-cases-requires : (t : ℕ) → switch-lts.Need-cases-requires (switch-calls t) (switch-at t) switch.Post
 switch-cases-requires t c κs =
-    let k₁ = c .before .before .before .before .before in
+    let k₁ = c .before .before .before in
     let k₂ = k₁ .before .before .before .before .before .before .before in
     (omega (arith, k₂ .pre .0, k₂ .pre .1 .0), record { near = k₁ .one-case .ensures .on .near; listed = rw (k₁ .one-case .ensures .on .kept) (k₂ .pre .1 .1 .listed); few = omega (arith, k₂ .pre .1 .1 .few) })
 
 switch-word-from-requires-2 : (t : ℕ) → switch-lts.Need-word-from-requires-2 (switch-calls t) (switch-at t) switch.Post
 switch-word-from-requires-2 t c κs =
-    let k₁ = c .before .before .before .before in
-    let k₂ = k₁ .before .before .before .before .before .before .before .before .before .before .before .before .before in
+    let k₁ = c .before .before in
+    let k₂ = k₁ .before .before .before .before .before .before .before .before .before .before .before in
     (k₂ .pre .1 .1 .near .short, k₁ .cases .ensures .on .near .inside)
 
 switch-word-from-requires-3 : (t : ℕ) → switch-lts.Need-word-from-requires-3 (switch-calls t) (switch-at t) switch.Post
 switch-word-from-requires-3 t c κs =
-    let k₁ = c .before .before .before .before .before .before .before .before .before .before .before .before .before .before .before .before .before .before in
+    let k₁ = c .before .before .before .before .before .before .before .before .before .before .before .before .before .before in
     (k₁ .pre .1 .1 .near .short, c .word-from2 .ensures .near .inside)
 
 switch-list-requires : (t : ℕ) → switch-lts.Need-list-requires (switch-calls t) (switch-at t) switch.Post
 switch-list-requires t c κs =
     let k₁ = c .before in
-    let k₂ = k₁ .before .before .before .before .before .before in
-    let k₃ = k₂ .before .before .before .before .before .before in
+    let k₂ = k₁ .before .before .before .before in
+    let k₃ = k₂ .before .before .before .before in
     let k₄ = k₃ .before .before .before .before .before .before .before in
     (omega (arith, k₄ .pre .0, k₄ .pre .1 .0), record { near = k₁ .word-from3 .ensures .near; listed = rw (k₂ .cases .ensures .on .kept ∙ k₃ .one-case .ensures .on .kept) (k₄ .pre .1 .1 .listed); few = omega (arith, k₄ .pre .1 .1 .few) })
 
 switch-word-from-requires-4 : (t : ℕ) → switch-lts.Need-word-from-requires-4 (switch-calls t) (switch-at t) switch.Post
 switch-word-from-requires-4 t c κs =
-    let k₁ = c .before .before .before .before in
-    let k₂ = k₁ .before .before .before .before .before .before .before .before .before .before .before .before .before .before .before .before .before .before .before .before .before in
+    let k₁ = c .before .before in
+    let k₂ = k₁ .before .before .before .before .before .before .before .before .before .before .before .before .before .before .before .before .before in
     (k₂ .pre .1 .1 .near .short, k₁ .list .ensures .on .near .inside)
 
 switch-finish-requires : (t : ℕ) → switch-lts.Need-finish-requires (switch-calls t) (switch-at t) switch.Post
@@ -1153,20 +1153,20 @@ switch-same-length : (t : ℕ) → switch-lts.Need-same-length (switch-calls t) 
 unfolding beside
 switch-same-length t c =
     let k₁ = c .before .before in
-    let k₂ = k₁ .before .before .before .before .before .before .before in
-    let k₃ = k₂ .before .before .before .before .before .before .before .before in
-    let k₄ = k₃ .before .before .before .before .before .before in
+    let k₂ = k₁ .before .before .before .before .before in
+    let k₃ = k₂ .before .before .before .before .before .before in
+    let k₄ = k₃ .before .before .before .before in
     same-size (k₁ .finish .ensures .kept ∙ k₂ .list .ensures .on .kept ∙ k₃ .cases .ensures .on .kept ∙ k₄ .one-case .ensures .on .kept)
 
 switch-returns : (t : ℕ) → switch-lts.Need-returns (switch-calls t) (switch-at t) switch.Post
 switch-returns t c =
     let k₁ = c .before .before in
     let k₂ = k₁ .before .before in
-    let k₃ = k₂ .before .before .before .before .before in
+    let k₃ = k₂ .before .before .before in
     let k₄ = k₃ .before .before in
     let k₅ = k₄ .before in
-    let k₆ = k₅ .before .before .before .before .before in
-    let k₇ = k₆ .before .before .before .before .before .before in
+    let k₆ = k₅ .before .before .before in
+    let k₇ = k₆ .before .before .before .before in
     let k₈ = k₇ .before .before in
     let k₉ = k₈ .before in
     let k₁₀ = k₉ .before in
@@ -1200,21 +1200,21 @@ while-loop-test-requires t c κs =
 
 while-loop-word-from-requires-2 : (t : ℕ) → while-loop-lts.Need-word-from-requires-2 (while-loop-calls t) (while-loop-at t) while-loop.Post
 while-loop-word-from-requires-2 t c κs =
-    let k₁ = c .before .before .before .before in
+    let k₁ = c .before .before in
     let k₂ = k₁ .before .before .before .before .before .before .before in
     (k₂ .pre .1 .1 .near .short, k₁ .test .ensures .on .near .inside)
 
 while-loop-list-requires : (t : ℕ) → while-loop-lts.Need-list-requires (while-loop-calls t) (while-loop-at t) while-loop.Post
 while-loop-list-requires t c κs =
     let k₁ = c .before in
-    let k₂ = k₁ .before .before .before .before .before in
+    let k₂ = k₁ .before .before .before in
     let k₃ = k₂ .before .before .before .before .before .before .before in
     (omega (arith, k₃ .pre .0, k₃ .pre .1 .0), record { near = k₁ .word-from2 .ensures .near; listed = rw (k₂ .test .ensures .on .kept) (k₃ .pre .1 .1 .listed); few = omega (arith, k₃ .pre .1 .1 .few) })
 
 while-loop-word-from-requires-3 : (t : ℕ) → while-loop-lts.Need-word-from-requires-3 (while-loop-calls t) (while-loop-at t) while-loop.Post
 while-loop-word-from-requires-3 t c κs =
-    let k₁ = c .before .before .before .before in
-    let k₂ = k₁ .before .before .before .before .before .before .before .before .before .before .before .before .before .before in
+    let k₁ = c .before .before in
+    let k₂ = k₁ .before .before .before .before .before .before .before .before .before .before .before .before in
     (k₂ .pre .1 .1 .near .short, k₁ .list .ensures .on .near .inside)
 
 while-loop-cast-finish : (t : ℕ) → while-loop-lts.Need-cast-finish (while-loop-calls t) (while-loop-at t) while-loop.Post
@@ -1227,17 +1227,17 @@ while-loop-same-length : (t : ℕ) → while-loop-lts.Need-same-length (while-lo
 unfolding beside
 while-loop-same-length t c =
     let k₁ = c .before .before in
-    let k₂ = k₁ .before .before .before .before .before .before .before .before in
-    let k₃ = k₂ .before .before .before .before .before .before .before in
+    let k₂ = k₁ .before .before .before .before .before .before in
+    let k₃ = k₂ .before .before .before .before .before in
     same-size (k₁ .finish .ensures .kept ∙ k₂ .list .ensures .on .kept ∙ k₃ .test .ensures .on .kept)
 
 while-loop-returns : (t : ℕ) → while-loop-lts.Need-returns (while-loop-calls t) (while-loop-at t) while-loop.Post
 while-loop-returns t c =
     let k₁ = c .before .before in
     let k₂ = k₁ .before .before .before in
-    let k₃ = k₂ .before .before .before .before .before in
+    let k₃ = k₂ .before .before .before in
     let k₄ = k₃ .before .before in
-    let k₅ = k₄ .before .before .before .before .before in
+    let k₅ = k₄ .before .before .before in
     let k₆ = k₅ .before .before in
     let k₇ = k₆ .before in
     let k₈ = k₇ .before in
