@@ -13,7 +13,7 @@ fn joined(o: Sum, x: u32, y: u32) -> u32
     ensures { λ r. ⌜ r ≡ joinedOf o x y ⌝ }
 {
     match o {
-        Sum::Plus => std::num::wrapping_add_u32(x, y) % 65536,
+        Sum::Plus => std::num::wrapping_add_u32(x, y),
         Sum::Minus => std::num::wrapping_sub_u32(x, y),
         Sum::Times => x,
         Sum::Quotient => x,
