@@ -3,12 +3,27 @@
 /// "Source 8,192 bytes."
 const LENGTH: usize = 8_192;
 
+/// Nothing but assigned sums, their terms in parentheses now and then.
+const SUMS: &[u8] = b"program sums;
+    input UP, DOWN; output FULL; integer a[8], b[8], c[8], d[4];
+    parallel
+      loop a := a + b - c + d - 3 + b endloop
+    ||
+      loop b := b - (a + c) + (d - 7) - a + 1 endloop
+    ||
+      loop c := c + d + d + d - a - b - (b - (c + 5)) endloop
+    ||
+      loop if UP then d := d + 1 else d := d - 1 endif endloop
+    endparallel
+    endprog";
+
 /// Whose clocks are counted.
-pub fn machines() -> [(&'static str, &'static [u8]); 3] {
+pub fn machines() -> [(&'static str, &'static [u8]); 4] {
     [
         ("soda", include_bytes!("../../../examples/soda.csml")),
         ("mast", include_bytes!("../../../examples/mast.csml")),
         ("blackjack", include_bytes!("../../../examples/blackjack.csml")),
+        ("sums", SUMS),
     ]
 }
 

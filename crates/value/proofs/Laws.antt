@@ -176,7 +176,7 @@ same-number true false = refl
 same-number false true = refl
 same-number false false = refl
 
-no-bool : {A : Type 0} → _≡_ {A = Bool} false true → A
+pub no-bool : {A : Type 0} → _≡_ {A = Bool} false true → A
 no-bool e = absurd (let z : _≡_ {A = ℕ} 0 1 = cc in omega arith)
 
 no-whole : {A : Type 0} → _≡_ {A = Bool} true false → A
@@ -238,6 +238,9 @@ same-less a b h = rw h
 
 pub same-more : (a b : ℤ) → ltZ a b ≡ false → opposite (ltZ b a) ≡ sameWhole a b
 same-more a b h = rw h
+
+pub less-of : {x y a b : ℤ} {r : Bool} → r ≡ ltZ x y → x ≡ a → y ≡ b → r ≡ ltZ a b
+less-of e p q = rw (← p, ← q) e
 
 -- ---- leaves
 
@@ -313,7 +316,7 @@ added (kinds.Arithmetic Remainder a b) e = no-row e
 added (kinds.Comparison o a b) e = no-row e
 added (kinds.Logic o a b) e = no-row e
 
-adds-size : (o : Sum) (m n : ℕ) → adds o ≡ true → combined (sum o) m n ≡ m + n
+pub adds-size : (o : Sum) (m n : ℕ) → adds o ≡ true → combined (sum o) m n ≡ m + n
 adds-size Plus m n e = refl
 adds-size Minus m n e = refl
 adds-size Times m n e = no-bool e

@@ -183,7 +183,7 @@ fn term_of(k: Kind) -> Term
     }
 }
 
-fn term_at(t: &[u8; 16384], j: u16) -> Term
+pub fn term_at(t: &[u8; 16384], j: u16) -> Term
     ensures { λ r. ⌜ r ≡ termOf (kindAt (now (t .entry)) j) ⌝ }
 {
     let n = nodes::part_at(t, j);
@@ -192,7 +192,7 @@ fn term_at(t: &[u8; 16384], j: u16) -> Term
 }
 
 // A leaf takes no call of its own.
-fn operand(t: &[u8; 16384], word: u32, inputs: u32, j: u16, left: u16) -> i64
+pub fn operand(t: &[u8; 16384], word: u32, inputs: u32, j: u16, left: u16) -> i64
     requires { ⌜ Fit (exprAt left (now t) j) ⌝ }
     ensures { λ r. ⌜ r ≡ flat (value (exprAt left (now (t .entry)) j) (record { word = word; inputs = inputs })) ⌝ }
 {

@@ -3,18 +3,15 @@ use mathlib.Core.Path.{_≡_, refl, sym, ap, _∙_}
 use mathlib.Core.Bool.{Bool, true, false, not as opposite}
 use mathlib.Core.List.{List}
 use Prim.Native.Nat.{ℕ, zero, suc, _+_, _-_, _*_, _%_, _≤_, _<_, _^_}
-use native.Mathlib.Nat.{mod-eq-of-lt, one-mul, lt-of-lt-of-le}
+use native.Mathlib.Nat.{mod-lt, mod-eq-of-lt, one-mul, lt-of-lt-of-le}
 use native.Mathlib.Numerals.{sub-one}
 use native.Mathlib.Omega.{arith}
-use lib.Bits.{bitAnd, and-mask}
-use lib.IntN.{ℤ}
+use lib.Bits.{bitAnd, and-mask, mask-lt}
 use lib.ListN.{length, set}
-use lib.Pow.{pow-pos, pow-mono, shl-lt}
+use lib.Pow.{pow-pos, pow-mono, shl-lt, le-ones}
 use Rattle.meaning.specs.Tree.{Head, invert}
 use Rattle.meaning.specs.Tries.{Tries, noTries, bitAt, tryBits, changed}
-use Rattle.meaning.specs.Numbers.{lowBits}
 use Rattle.meaning.specs.Clock.{waits, done, delayed}
-use Rattle.meaning.proofs.LowBits.{low-of-low, low-lt}
 use Rattle.nodes.specs.Decode.{targetBy}
 use Rattle.runs.specs.Run.{put}
 use Rattle.runs.specs.Buffer.{packed, Comes}
@@ -33,11 +30,14 @@ shifted x low width h k = mod-eq-of-lt (lt-of-lt-of-le (shl-lt width low k) (pow
 pub bit-shifted : (j : ℕ) → j < 32 → 1 * 2 ^ j % 4294967296 ≡ 2 ^ j
 bit-shifted j h = ap (λ (x : ℕ). x % 4294967296) (one-mul (2 ^ j)) ∙ mod-eq-of-lt (omega (arith, pow-mono {i = j} {j = 31} (omega arith)))
 
-pub one-shifted : (w : ℕ) → w ≤ 16 → 1 * 2 ^ w % 4294967296 ≡ 2 ^ w
+one-shifted : (w : ℕ) → w ≤ 16 → 1 * 2 ^ w % 4294967296 ≡ 2 ^ w
 one-shifted w h = bit-shifted w (omega arith)
 
-pub low-masked : (w : ℕ) (z : ℤ) → w ≤ 16 → bitAnd (lowBits 32 z) (2 ^ w - 1) ≡ lowBits w z
-low-masked w z h = and-mask (lowBits 32 z) w ∙ sym (low-of-low w 32 z (omega arith))
+pub mask-some : (w : ℕ) → w ≤ 16 → 1 ≤ 1 * 2 ^ w % 4294967296
+mask-some w h = rw (one-shifted w h) (pow-pos w)
+
+pub mask-holds : (x w : ℕ) → w ≤ 16 → bitAnd x (1 * 2 ^ w % 4294967296 - 1) ≤ 1 * 2 ^ w % 4294967296 - 1
+mask-holds x w h = rw (one-shifted w h) (le-ones w (mask-lt x w))
 
 pub delay-none : (n : ℕ) (h : Head) (b : ℕ) (l : List ℕ) → length l ≡ 11 → n ≡ 0 → Comes (delayed h n) 0 b l l 0
 delay-none n h b l e q = rw q (finishes-now l b e)
@@ -57,20 +57,18 @@ pub flips : (b : Bool) → opposite b ≡ changed invert b
 flips true = refl
 flips false = refl
 
-pub lowered : (w : ℕ) (z : ℤ) → 2 ^ w - 1 - lowBits w z < 2 ^ w
-lowered w z = omega (arith, pow-pos w)
+lowered : (w x : ℕ) → 2 ^ w - 1 - x % 2 ^ w < 2 ^ w
+lowered w x = omega (arith, pow-pos w)
 
-pub assign-ones : (low width : ℕ) (z : ℤ) (x : ℕ) → low + width ≤ 32 → width ≤ 16 → x ≡ lowBits 32 z
-    → bitAnd x (1 * 2 ^ width % 4294967296 - 1) * 2 ^ low % 4294967296 ≡ tryBits low width (lowBits width z) .ones
-assign-ones low width z x h k e =
-    let m : bitAnd x (2 ^ width - 1) ≡ lowBits width z = ap (λ (y : ℕ). bitAnd y (2 ^ width - 1)) e ∙ low-masked width z k in
-    rw (one-shifted width k, m) (shifted (lowBits width z) low width h (low-lt width z))
+pub assign-ones : (low width x : ℕ) → low + width ≤ 32 → width ≤ 16
+    → bitAnd x (1 * 2 ^ width % 4294967296 - 1) * 2 ^ low % 4294967296 ≡ tryBits low width (x % 2 ^ width) .ones
+assign-ones low width x h k =
+    rw (one-shifted width k, and-mask x width) (shifted (x % 2 ^ width) low width h (mod-lt x (pow-pos width)))
 
-pub assign-zeros : (low width : ℕ) (z : ℤ) (x : ℕ) → low + width ≤ 32 → width ≤ 16 → x ≡ lowBits 32 z
-    → (1 * 2 ^ width % 4294967296 - 1 - bitAnd x (1 * 2 ^ width % 4294967296 - 1)) * 2 ^ low % 4294967296 ≡ tryBits low width (lowBits width z) .zeros
-assign-zeros low width z x h k e =
-    let m : bitAnd x (2 ^ width - 1) ≡ lowBits width z = ap (λ (y : ℕ). bitAnd y (2 ^ width - 1)) e ∙ low-masked width z k in
-    rw (one-shifted width k, m) (shifted (2 ^ width - 1 - lowBits width z) low width h (lowered width z))
+pub assign-zeros : (low width x : ℕ) → low + width ≤ 32 → width ≤ 16
+    → (1 * 2 ^ width % 4294967296 - 1 - bitAnd x (1 * 2 ^ width % 4294967296 - 1)) * 2 ^ low % 4294967296 ≡ tryBits low width (x % 2 ^ width) .zeros
+assign-zeros low width x h k =
+    rw (one-shifted width k, and-mask x width) (shifted (2 ^ width - 1 - x % 2 ^ width) low width h (lowered width x))
 
 -- the same tries
 pub tries-as : {a c : ℕ} {t : Tries} {ls b : ℕ} {l k : List ℕ} {r : ℕ} → a ≡ t .ones → c ≡ t .zeros → Comes (waits (record { ones = a; zeros = c }) done) ls b l k r → Comes (waits t done) ls b l k r

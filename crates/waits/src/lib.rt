@@ -1,16 +1,13 @@
 // Statements that wait, and tests. What raise, lower, invert and := try is said here alone.
 ghost use mathlib.Core.Path.{_≡_};
-ghost use mathlib.Core.Bool.{true};
-ghost use Prim.Native.Nat.{ℕ, _+_, _<_, _≤_};
-ghost use lib.IntN.{natAbs};
+ghost use Prim.Native.Nat.{ℕ, _+_, _%_, _^_, _<_, _≤_};
 ghost use lib.ListN.{length};
 ghost use Rattle.meaning.specs.Tries.{bitAt, changeTries, assignTries, tryBits, changed, tryBit};
-ghost use Rattle.meaning.specs.Numbers.{holds, bitOf, lowBits, wholeOf, value};
+ghost use Rattle.meaning.specs.Numbers.{holds, bitOf};
 ghost use Rattle.meaning.specs.Clock.{waits, done, delayed};
 ghost use Rattle.nodes.specs.Layout.{looksAt};
 ghost use Rattle.nodes.specs.Decode.{change, target, assigned, exprAt, mostDeep};
 ghost use Rattle.nodes.specs.Looks.{looks};
-ghost use Rattle.nodes.specs.Fit.{isWhole, sizeOf, Fit};
 ghost use Rattle.nodes.specs.Good.{GoodTest, GoodAssign};
 ghost use Rattle.runs.specs.Buffer.{Comes, Looked};
 use nodes::Change;
@@ -62,20 +59,14 @@ pub fn change_bit(o: &mut [u32; 11], word: u32, c: Change, v: Target) -> u8
     set_bit(o, j, changing(c, bit_is(word, j)))
 }
 
-fn set_bits(o: &mut [u32; 11], low: u16, width: u16, z: i64) -> u8
-    requires { ⌜ (length (now o) ≡ 11) × ((low + width ≤ 32) × ((width ≤ 16) × ((1 ≤ width) × (natAbs z < 2147483648)))) ⌝ }
-    ensures { λ r. ⌜ ((b : ℕ) → Comes (waits (tryBits low width (lowBits width z)) done) 0 b (now (o .entry)) (now (o .exit)) r) ⌝ }
+// The low bits of z, as many as the target has.
+fn set_bits(o: &mut [u32; 11], low: u16, width: u16, z: u32) -> u8
+    requires { ⌜ (length (now o) ≡ 11) × ((low + width ≤ 32) × ((width ≤ 16) × (1 ≤ width))) ⌝ }
+    ensures { λ r. ⌜ ((b : ℕ) → Comes (waits (tryBits low width (z % 2 ^ width)) done) 0 b (now (o .entry)) (now (o .exit)) r) ⌝ }
 {
     let mask = (1u32 << width as u32) - 1;
-    let bits = ints::low_bits(z) & mask;
+    let bits = z & mask;
     runs::tried(o, bits << low as u32, (mask - bits) << low as u32)
-}
-
-fn assign_value(t: &[u8; 16384], word: u32, inputs: u32, x: u16) -> i64
-    requires { ⌜ (sizeOf (exprAt mostDeep (now t) x) < 2147483648) × ((isWhole (exprAt mostDeep (now t) x) ≡ true) × Fit (exprAt mostDeep (now t) x)) ⌝ }
-    ensures { λ r. ⌜ (r ≡ wholeOf (value (exprAt mostDeep (now (t .entry)) x) (record { word = word; inputs = inputs }))) × (natAbs r < 2147483648) ⌝ }
-{
-    value::value(t, word, inputs, x, 1024)
 }
 
 // The assignment i of the expression x to v.
@@ -92,7 +83,7 @@ pub fn assign(
     ensures { λ r. ⌜ ((b : ℕ) → Comes (waits (assignTries (assigned v) (exprAt mostDeep (now (t .entry)) x) (record { word = word; inputs = inputs })) done) (looks (exprAt mostDeep (now (t .entry)) x)) b (now (o .entry)) (now (o .exit)) r) ⌝ }
 {
     runs::look(o, nodes::looks_at(t, i));
-    set_bits(o, v.low, v.width, assign_value(t, word, inputs, x))
+    set_bits(o, v.low, v.width, sums::wrapped(t, word, inputs, x, 1024))
 }
 
 // The test x of the statement or case i.

@@ -1,4 +1,9 @@
-use Rattle.value.proofs.Laws.{through}
+use mathlib.Core.Path.{sym, ap, _∙_}
+use Rattle.meaning.specs.Numbers.{asNumber}
+use Rattle.nodes.specs.Decode.{test}
+use Rattle.nodes.specs.declared.Test.{Test}
+use Rattle.value.specs.Flat.{compareZ}
+use Rattle.value.proofs.Laws.{through, less-of}
 use mir.ValLaws.{toZ-ofZ}
 use mir.Syntax.{w64}
 use borrow.Author.Needs.{needs}
@@ -53,10 +58,10 @@ returns-2 : tie.Need-returns-2
 returns-2 c = rw (through _ (c .flag2 .ok), c .flag2 .ensures, c .before .same2 .ensures, toZ-ofZ w64 _ (c .before .before .before .before .fits .a), toZ-ofZ w64 _ (c .before .before .before .before .fits .b), c .before .before .enum-told2 .given .1)
 
 returns-3 : tie.Need-returns-3
-returns-3 c = rw (through _ (c .flag3 .ok), c .flag3 .ensures, c .before .below .ensures, toZ-ofZ w64 _ (c .before .before .before .before .fits .a), toZ-ofZ w64 _ (c .before .before .before .before .fits .b), c .before .before .enum-told3 .given .1)
+returns-3 c = rw (through _ (c .flag3 .ok), c .flag3 .ensures) (ap asNumber (less-of (c .before .below .ensures) (toZ-ofZ w64 _ (c .before .before .before .before .fits .b)) (toZ-ofZ w64 _ (c .before .before .before .before .fits .a)) ∙ sym (ap (λ (o : Test). compareZ (test o) (c .before .before .before .before .args .a) (c .before .before .before .before .args .b)) (c .before .before .enum-told3 .given .1))))
 
 returns-4 : tie.Need-returns-4
-returns-4 c = rw (through _ (c .flag4 .ok), c .flag4 .ensures, c .before .below2 .ensures, toZ-ofZ w64 _ (c .before .before .before .before .fits .a), toZ-ofZ w64 _ (c .before .before .before .before .fits .b), c .before .before .enum-told4 .given .1)
+returns-4 c = rw (through _ (c .flag4 .ok), c .flag4 .ensures) (ap asNumber (less-of (c .before .below2 .ensures) (toZ-ofZ w64 _ (c .before .before .before .before .fits .a)) (toZ-ofZ w64 _ (c .before .before .before .before .fits .b)) ∙ sym (ap (λ (o : Test). compareZ (test o) (c .before .before .before .before .args .a) (c .before .before .before .before .args .b)) (c .before .before .enum-told4 .given .1))))
 
 pub compared-spec : {M : Type 1} → statement M
 compared-spec =
