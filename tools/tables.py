@@ -1,6 +1,7 @@
 #!/usr/bin/env python3
-# Makes crates/grammar_law/specs/Tables.antt and the tables of crates/tables/src from the grammar in crates/language/specs, and
-# crates/spellings/src/data.rt from its lists of words. Nothing rests on it: every entry of every table is tested where it is proved.
+# Makes crates/grammar_law/specs/Tables.antt, the tables of crates/tables/src and the strengths of crates/tiers from the grammar in
+# crates/language/specs, and crates/spellings/src/data.rt from its lists of words. Nothing rests on it: every entry of every table
+# is tested where it is proved.
 import os
 import re
 
@@ -201,6 +202,20 @@ source('tables', 'calls', '\n'.join([
     '// How many cells the table of starts has, and how many of them are not 0.\npub const CELLS: usize = %d;\n\npub const COUNT: usize = %d;\n' % (COLUMNS * len(parts), len(entries)),
     const('128 times the number of the part, plus the kind of the word.', 'CALLED', 'u16', [e[0] for e in entries], notes),
     const('Where the row begins that it calls for.', 'PLACES', 'u16', [e[1] for e in entries], notes)]))
+
+# ---- the strengths of operators between their operands, by the numbers of their kinds
+joins = {o: n for n, (where, ops) in enumerate(binding) if where == 'between' for o in re.findall(r'"([^"]*)"', ops)}
+last_join = max(kinds.index(o) for o in joins)
+strengths = [joins.get(k, 255) for k in kinds[:last_join + 1]]
+open(os.path.join(ROOT, 'tiers', 'specs', 'Strengths.antt'), 'w').write('''-- The strength of an operator between its operands, by the number of its kind; 255 for every other word. Made by tools/tables.py; nothing rests on how: proofs/Chosen tests every entry.
+-- Assumes nothing.
+use mathlib.Core.List.{List, [], _∷_}
+use Prim.Native.Nat.{ℕ}
+
+abbrev pub strengths : List ℕ
+strengths = %s
+''' % listed(strengths))
+source('tiers', 'strengths', const('The strength of an operator between its operands, by the number of its kind; 255 for every other word. Made by tools/tables.py; every entry is tested by a proof.', 'STRENGTHS', 'u8', strengths, kinds))
 
 # ---- the spellings
 signs, reserved = strings(words, 'signs'), strings(words, 'reserved')

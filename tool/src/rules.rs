@@ -84,8 +84,8 @@ const RULES: [Rule; 14] = [
                number is below its integer's width",
         right: "`int(..)` makes a number of a boolean, a comparison makes a boolean of two numbers",
         example: Example::Programs {
-            refused: "program p; integer x[4]; if x > 10 & x < 14 then skip endif endprog",
-            right: "program p; integer x[4]; if (x > 10) & (x < 14) then skip endif endprog",
+            refused: "program p; integer x[4]; if 10 < x < 14 then skip endif endprog",
+            right: "program p; integer x[4]; if x > 10 & x < 14 then skip endif endprog",
         },
     },
     Rule {

@@ -60,14 +60,14 @@ fn records_with_procedures_of_every_kind() {
     assert!(kinds["ok"] > RECORDS / 3, "{kinds:?}");
 }
 
-/// The old streams are what stored outputs and other tests stand on.
+/// The old streams are what stored outputs and other tests stand on. T-03 moved them: comparisons stand bare beside `&` and `|`.
 #[test]
 fn records_without_procedures_are_as_they_were() {
     let mut bytes = Vec::new();
     for record in gen::records(2026).take(2_000) {
         record.write(&mut bytes).unwrap();
     }
-    assert_eq!(hash(&bytes), 0x8ef4_b2ea_3daf_84c1);
+    assert_eq!(hash(&bytes), 0xa81c_46fc_812b_724b);
 }
 
 #[test]

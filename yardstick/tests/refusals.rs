@@ -181,9 +181,10 @@ fn expressions() {
     refused(5, "x := (x)^[0]");
     refused(7, "if ^!a + 1 then skip endif");
     refused(7, "x := x ^+ (!a)");
-    refused(7, "if x ^> 1 & x < 3 then skip endif");
+    refused(7, "if 1 < x ^< 3 then skip endif");
+    refused(7, "if (x ^> (1 & x)) < 3 then skip endif");
     all_compile(&[
-        &format!("{with} if (x > 1) & (x < 3) | !!a == !a | a & a != a then skip endif endprog"),
+        &format!("{with} if x > 1 & x < 3 | !!a == !a | a & a != a then skip endif endprog"),
         &format!("{with} if x + 1 * 2 > 3 - 2 - 1 == true then skip endif endprog"),
     ]);
 }
@@ -454,11 +455,28 @@ fn source_length() {
 }
 
 #[test]
-fn the_binding_order_is_the_printed_one() {
-    // `&` binds less than `|`, and a comparison least of all.
-    assert_eq!(rows("program p; output A; if false & false | true then raise(A) endif endprog"), "0 0 1; 1 0 1");
-    assert_eq!(rows("program p; output A; if true == false & false then raise(A) endif endprog"), "0 0 1; 1 0 1");
-    assert_eq!(rows("program p; output A; if (true == false) == false then raise(A) endif endprog"), "0 0 1; 1 1 1");
-    assert_eq!(rows("program p; output A; if 7 - 2 - 1 == 4 then raise(A) endif endprog"), "0 0 1; 1 1 1");
-    assert_eq!(rows("program p; output A; if 1 + 2 * 3 == 7 then raise(A) endif endprog"), "0 0 1; 1 1 1");
+fn the_binding_order_is_the_one_the_figures_mean() {
+    let holds = |test: &str| {
+        let source = format!("program p; output A; integer x[4] = 5; if {test} then raise(A) endif endprog");
+        match rows(&source).as_str() {
+            "0 0 1; 1 1 1" => true,
+            "0 0 1; 1 0 1" => false,
+            other => panic!("{test}: {other}"),
+        }
+    };
+    // Each with the parentheses that it is read with, and with those of another order, which says something else.
+    for (bare, read, other) in [
+        ("false & false | true", "false & (false | true)", "(false & false) | true"),
+        ("true | true & false", "(true | true) & false", "true | (true & false)"),
+        ("true | true == false", "true | (true == false)", "(true | true) == false"),
+        ("false == false | true", "(false == false) | true", "false == (false | true)"),
+        ("false & false == false", "false & (false == false)", "(false & false) == false"),
+        ("x + 2 * 3 == 11", "(x + (2 * 3)) == 11", "((x + 2) * 3) == 11"),
+        ("2 * x + 3 == 13", "((2 * x) + 3) == 13", "(2 * (x + 3)) == 13"),
+        ("x - 2 - 1 == 2", "((x - 2) - 1) == 2", "(x - (2 - 1)) == 2"),
+        ("!true & false", "(!true) & false", "!(true & false)"),
+        ("!true | true", "(!true) | true", "!(true | true)"),
+    ] {
+        assert_eq!((holds(bare), holds(other)), (holds(read), !holds(read)), "{bare}");
+    }
 }

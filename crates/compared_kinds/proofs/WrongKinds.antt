@@ -51,7 +51,7 @@ pub record WrongKinds : Type 0 where
   pub bit-of-wide : Lists 256 "program p; integer y[17]; delay 256; raise(y[16]); raise(y[17]) endprog" "refused 7 at 57\n"
   pub under-not : Lists 256 "program p; output A; if !(1 & A) then skip endif endprog" "refused 7 at 28\n"
   pub left-first : Lists 256 "program p; output A; if 1 & A == !2 then skip endif endprog" "refused 7 at 26\n"
-  pub newcard : Lists 256 "program p; integer newcard[4]; if newcard > 10 & newcard < 14 then skip endif endprog" "refused 7 at 42\n"
+  pub chain : Lists 256 "program p; integer newcard[4]; if 10 < newcard < 14 then skip endif endprog" "refused 7 at 47\n"
   pub two-in-one : Lists 256 "program p; output b; if 1 + b[0] then skip endif endprog" "refused 7 at 21\n"
   pub all-well : Lists 256 "program p; input I; output A; internal B; integer x[3]; break; raise(A); lower(B); invert(x[2]); x := int(x[2]) + int(I) - int(!A) * 3 / x % 2; while A == B do loop skip endloop; if (x != 1) & A | I then skip endif; switch case x[0]: skip case x > 1: skip default: skip endswitch; if true == (x < 2) & (I != false) then skip endif endprog" "refused 8 at 56\n"
 
@@ -106,7 +106,7 @@ wrongKinds =
       bit-of-wide = lists refl;
       under-not = lists refl;
       left-first = lists refl;
-      newcard = lists refl;
+      chain = lists refl;
       two-in-one = lists refl;
       all-well = lists refl;
     }

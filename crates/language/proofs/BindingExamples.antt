@@ -94,14 +94,20 @@ s means t = of (wordsIn s ++ wordsIn ")") ≡ bytes t
 
 infix 20 _means_
 pub record Examples : Type 0 where
-  -- "Binding, lowest to highest, as 000 and 001 print it"
-  pub printed : "newcard > 10 & newcard < 14" means "((newcard>(10&newcard))<14)"
+  -- "the order is, lowest to highest": T-03's line, and each two neighbouring strengths, both ways round
+  pub printed : "newcard > 10 & newcard < 14" means "((newcard>10)&(newcard<14))"
   pub and-or : "a & b | c" means "(a&(b|c))"
   pub or-and : "a | b & c" means "((a|b)&c)"
-  pub equal-and : "a & b == c | d" means "((a&b)==(c|d))"
-  pub not-or : "!a | !b" means "((!a)|(!b))"
+  pub or-equal : "a | b == c" means "(a|(b==c))"
+  pub equal-or : "a == b | c" means "((a==b)|c)"
+  pub equal-not : "a == !b" means "(a==(!b))"
+  pub not-equal : "!a == b" means "((!a)==b)"
   pub not-sum : "!x + 1 > 2" means "((!(x+1))>2)"
   pub sum-product : "a + b * c - d % e" means "((a+(b*c))-(d%e))"
+  pub product-sum : "a * b + c" means "((a*b)+c)"
+  -- .. and farther ones
+  pub equal-and : "a & b == c | d" means "(a&((b==c)|d))"
+  pub not-or : "!a | !b" means "((!a)|(!b))"
   -- "Binary operators group from the left"
   pub compared : "a == b != c > d < e" means "((((a==b)!=c)>d)<e)"
   pub minus : "a - b - c" means "((a-b)-c)"
@@ -118,10 +124,15 @@ examples =
       printed = refl;
       and-or = refl;
       or-and = refl;
-      equal-and = refl;
-      not-or = refl;
+      or-equal = refl;
+      equal-or = refl;
+      equal-not = refl;
+      not-equal = refl;
       not-sum = refl;
       sum-product = refl;
+      product-sum = refl;
+      equal-and = refl;
+      not-or = refl;
       compared = refl;
       minus = refl;
       divided = refl;

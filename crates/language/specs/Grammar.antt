@@ -62,7 +62,7 @@ pub data Strength : Type 0 where
 -- G7: from the loosest to the tightest
 unfoldable pub binding : List Strength
 binding =
-    between ("==" ∷ "!=" ∷ ">" ∷ "<" ∷ []) ∷ between ("&" ∷ []) ∷ between ("|" ∷ [])
+    between ("&" ∷ []) ∷ between ("|" ∷ []) ∷ between ("==" ∷ "!=" ∷ ">" ∷ "<" ∷ [])
     ∷ before "!"
     ∷ between ("+" ∷ "-" ∷ []) ∷ between ("*" ∷ "/" ∷ "%" ∷ [])
     ∷ []

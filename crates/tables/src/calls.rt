@@ -3,10 +3,10 @@
 // How many cells the table of starts has, and how many of them are not 0.
 pub const CELLS: usize = 5376;
 
-pub const COUNT: usize = 337;
+pub const COUNT: usize = 331;
 
 // 128 times the number of the part, plus the kind of the word.
-pub const CALLED: [u16; 337] = [
+pub const CALLED: [u16; 331] = [
     27, // Program: program
     129, // Declarations: name
     157, // Declarations: input
@@ -231,14 +231,11 @@ pub const CALLED: [u16; 337] = [
     4642, // Tier 6: false
     4643, // Tier 6: int
     4739, // Further 0: ||
-    4741, // Further 0: !=
-    4743, // Further 0: ==
     4746, // Further 0: :
     4749, // Further 0: ;
     4750, // Further 0: ,
     4752, // Further 0: )
-    4755, // Further 0: >
-    4756, // Further 0: <
+    4757, // Further 0: &
     4764, // Further 0: endprog
     4778, // Further 0: then
     4779, // Further 0: else
@@ -251,14 +248,11 @@ pub const CALLED: [u16; 337] = [
     4792, // Further 0: endparallel
     4794, // Further 0: endproc
     4867, // Further 1: ||
-    4869, // Further 1: !=
-    4871, // Further 1: ==
+    4868, // Further 1: |
     4874, // Further 1: :
     4877, // Further 1: ;
     4878, // Further 1: ,
     4880, // Further 1: )
-    4883, // Further 1: >
-    4884, // Further 1: <
     4885, // Further 1: &
     4892, // Further 1: endprog
     4906, // Further 1: then
@@ -347,7 +341,7 @@ pub const CALLED: [u16; 337] = [
 ];
 
 // Where the row begins that it calls for.
-pub const PLACES: [u16; 337] = [
+pub const PLACES: [u16; 331] = [
     3, // Program: program
     10, // Declarations: name
     11, // Declarations: input
@@ -572,14 +566,11 @@ pub const PLACES: [u16; 337] = [
     260, // Tier 6: false
     262, // Tier 6: int
     275, // Further 0: ||
-    280, // Further 0: !=
-    276, // Further 0: ==
     275, // Further 0: :
     275, // Further 0: ;
     275, // Further 0: ,
     275, // Further 0: )
-    284, // Further 0: >
-    288, // Further 0: <
+    276, // Further 0: &
     275, // Further 0: endprog
     275, // Further 0: then
     275, // Further 0: else
@@ -591,49 +582,46 @@ pub const PLACES: [u16; 337] = [
     275, // Further 0: endswitch
     275, // Further 0: endparallel
     275, // Further 0: endproc
-    292, // Further 1: ||
-    292, // Further 1: !=
-    292, // Further 1: ==
-    292, // Further 1: :
-    292, // Further 1: ;
-    292, // Further 1: ,
-    292, // Further 1: )
-    292, // Further 1: >
-    292, // Further 1: <
-    293, // Further 1: &
-    292, // Further 1: endprog
-    292, // Further 1: then
-    292, // Further 1: else
-    292, // Further 1: endif
-    292, // Further 1: do
-    292, // Further 1: endloop
-    292, // Further 1: case
-    292, // Further 1: default
-    292, // Further 1: endswitch
-    292, // Further 1: endparallel
-    292, // Further 1: endproc
-    297, // Further 2: ||
-    298, // Further 2: |
-    297, // Further 2: !=
-    297, // Further 2: ==
-    297, // Further 2: :
-    297, // Further 2: ;
-    297, // Further 2: ,
-    297, // Further 2: )
-    297, // Further 2: >
-    297, // Further 2: <
-    297, // Further 2: &
-    297, // Further 2: endprog
-    297, // Further 2: then
-    297, // Further 2: else
-    297, // Further 2: endif
-    297, // Further 2: do
-    297, // Further 2: endloop
-    297, // Further 2: case
-    297, // Further 2: default
-    297, // Further 2: endswitch
-    297, // Further 2: endparallel
-    297, // Further 2: endproc
+    280, // Further 1: ||
+    281, // Further 1: |
+    280, // Further 1: :
+    280, // Further 1: ;
+    280, // Further 1: ,
+    280, // Further 1: )
+    280, // Further 1: &
+    280, // Further 1: endprog
+    280, // Further 1: then
+    280, // Further 1: else
+    280, // Further 1: endif
+    280, // Further 1: do
+    280, // Further 1: endloop
+    280, // Further 1: case
+    280, // Further 1: default
+    280, // Further 1: endswitch
+    280, // Further 1: endparallel
+    280, // Further 1: endproc
+    285, // Further 2: ||
+    285, // Further 2: |
+    290, // Further 2: !=
+    286, // Further 2: ==
+    285, // Further 2: :
+    285, // Further 2: ;
+    285, // Further 2: ,
+    285, // Further 2: )
+    294, // Further 2: >
+    298, // Further 2: <
+    285, // Further 2: &
+    285, // Further 2: endprog
+    285, // Further 2: then
+    285, // Further 2: else
+    285, // Further 2: endif
+    285, // Further 2: do
+    285, // Further 2: endloop
+    285, // Further 2: case
+    285, // Further 2: default
+    285, // Further 2: endswitch
+    285, // Further 2: endparallel
+    285, // Further 2: endproc
     302, // Further 4: ||
     302, // Further 4: |
     302, // Further 4: !=

@@ -2,13 +2,14 @@
 -- Assumes nothing.
 use mathlib.Core.Bool.{Bool, true, cond, not as opposite}
 use mathlib.Core.Path.{_≡_, refl, sym, _∙_, ap}
+use mathlib.Core.List.{List, [], _∷_}
 use mathlib.Core.Option.{Option, none, some}
 use Prim.Native.Nat.{ℕ, zero, suc, _≤_, _<_}
 use Prim.Native.String.{String}
 use native.Mathlib.Omega.{arith}
 use lib.Dec.{eqb}
-use lib.ListN.{getElem?}
-use borrow.Author.Tests.{eqb-true, eqb-false, ne-eqb, not-true}
+use lib.ListN.{length, getD, getElem?, List·getD-eq-default}
+use borrow.Author.Tests.{eqb-true, eqb-false, not-true}
 use Rattle.ll1.proofs.Tests.{has, beginRow, pick}
 use Rattle.ll1.proofs.Sets.{clash}
 use Rattle.language.specs.Words.{Kind, the, signs, reserved, bytes, same}
@@ -18,6 +19,7 @@ use Rattle.language.proofs.Claims.{claims, first, empty, follow, sameKind, same
 use Rattle.words.specs.Kinds.{numbered, spellings, kindCount}
 use Rattle.hand.proofs.Chosen.{upTo, up-to, agrees, Pick, Decides}
 use Rattle.tiers.specs.Choose.{operandRow, strengthOf}
+use Rattle.tiers.specs.Strengths.{strengths}
 
 -- ---- operands
 
@@ -91,4 +93,15 @@ before-not n k c op h g e q r = clash (sym (ap (λ (x : Kind). sameKind x (the o
 -- the operators are among the first kinds
 pub strength-past : (k : ℕ) → 25 < k → strengthOf k ≡ 255
 unfolding strengthOf
-strength-past k h = rw (ne-eqb k 6 (λ e. omega arith), ne-eqb k 4 (λ e. omega arith), ne-eqb k 18 (λ e. omega arith), ne-eqb k 19 (λ e. omega arith), ne-eqb k 20 (λ e. omega arith), ne-eqb k 3 (λ e. omega arith), ne-eqb k 21 (λ e. omega arith), ne-eqb k 22 (λ e. omega arith), ne-eqb k 23 (λ e. omega arith), ne-eqb k 24 (λ e. omega arith), ne-eqb k 25 (λ e. omega arith)) refl
+strength-past k h = List·getD-eq-default strengths 255 {n = k} (omega arith)
+
+-- an entry of a table is the same whatever is read past its end
+any-default : (l : List ℕ) (k d e : ℕ) → k < length l → getD l k d ≡ getD l k e
+any-default [] k d e h = absurd (omega arith)
+any-default (x ∷ l) zero d e h = refl
+any-default (x ∷ l) (suc k) d e h = any-default l k d e (omega arith)
+
+-- so the table in code says the strengths
+pub strength-listed : (k : ℕ) → k ≤ 25 → getD strengths k 0 ≡ strengthOf k
+unfolding strengthOf
+strength-listed k h = any-default strengths k 0 255 (omega arith)

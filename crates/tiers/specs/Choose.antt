@@ -5,9 +5,11 @@ use mathlib.Core.Path.{_≡_}
 use mathlib.Core.Option.{Option, none, some}
 use Prim.Native.Nat.{ℕ, _-_, _<_}
 use lib.Dec.{eqb, ltb}
+use lib.ListN.{getD}
 use Rattle.language.specs.Words.{the}
 use Rattle.language.specs.Grammar.{Strength, between, before}
 use Rattle.words.specs.Kinds.{numbered, kindCount}
+use Rattle.tiers.specs.Strengths.{strengths}
 use Rattle.tiers.specs.declared.How.{How}
 use Rattle.tiers.specs.declared.How.the-variants.{Operand, Between, Before}
 
@@ -17,12 +19,7 @@ operandRow k = cond (eqb k 0) 0 (cond (eqb k 1) 1 (cond (eqb k 32) 2 (cond (eqb 
 
 -- the strength of an operator between its operands; 255 for every other word
 unfoldable pub strengthOf : ℕ → ℕ
-strengthOf k =
-    cond (eqb k 6) 0 (cond (eqb k 4) 0 (cond (eqb k 18) 0 (cond (eqb k 19) 0
-    (cond (eqb k 20) 1
-    (cond (eqb k 3) 2
-    (cond (eqb k 21) 4 (cond (eqb k 22) 4
-    (cond (eqb k 23) 5 (cond (eqb k 24) 5 (cond (eqb k 25) 5 255))))))))))
+strengthOf k = getD strengths k 255
 
 -- what the operators of a strength are
 abbrev pub IsHow : Option Strength → How → Type 0

@@ -1,2 +1,3 @@
 pub mod Choose
 pub mod Comes
+pub mod Strengths

@@ -2,7 +2,10 @@
 ghost use mathlib.Core.Path.{_≡_};
 ghost use lib.ListN.{getElem?};
 ghost use Rattle.language.specs.Grammar.{binding};
+ghost use Rattle.tiers.specs.Strengths.{strengths};
 ghost use Rattle.tiers.specs.Choose.{IsHow, operandRow, strengthOf, statementRow, isPlain};
+
+mod strengths;
 
 // The operators of a strength: none, those between operands, or one before its operand.
 pub enum How {
@@ -61,44 +64,22 @@ pub fn operand_row(kind: u8) -> u8
     6
 }
 
+// The table of strengths.
+fn all_strengths() -> [u8; 26]
+    ensures { λ r. ⌜ r ≡ strengths ⌝ }
+{
+    strengths::STRENGTHS
+}
+
 // The strength of an operator between its operands; 255 for every other word.
 pub fn strength_of(kind: u8) -> u8
     ensures { λ r. ⌜ r ≡ strengthOf kind ⌝ }
 {
-    if kind == 6 {
-        return 0;
+    if kind > 25 {
+        return 255;
     }
-    if kind == 4 {
-        return 0;
-    }
-    if kind == 18 {
-        return 0;
-    }
-    if kind == 19 {
-        return 0;
-    }
-    if kind == 20 {
-        return 1;
-    }
-    if kind == 3 {
-        return 2;
-    }
-    if kind == 21 {
-        return 4;
-    }
-    if kind == 22 {
-        return 4;
-    }
-    if kind == 23 {
-        return 5;
-    }
-    if kind == 24 {
-        return 5;
-    }
-    if kind == 25 {
-        return 5;
-    }
-    255
+    let table = all_strengths();
+    table[kind as usize]
 }
 
 // The row of the statement that begins with a word of this kind; 13 for none.

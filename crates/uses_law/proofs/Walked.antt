@@ -24,6 +24,7 @@ use Rattle.language.proofs.Claims.{claims, first, empty, follow}
 use Rattle.descent_law.specs.Gives.{Giving, RowGives, Gives}
 use Rattle.descent_law.specs.Told.{kindOf, Told, Called}
 use Rattle.descent_law.proofs.Given.{row-more}
+use Rattle.uses_law.proofs.Operators as quiet
 use Rattle.uses_law.specs.Uses.{Sort, aName, changes, becomes, index, opens, closes, last, other, sortOf, State, calm, named, changing, opened, changed, passing, fromCalm, fromName, fromPassing, next, held, onward, fitsName, fitsChanged, fits, walk}
 
 abbrev Text : Type 0
@@ -104,28 +105,9 @@ index-follows x e = go (has claims (follow Index) x) (has claims (some (the "[")
 
 -- ---- operators
 
--- an operator is no word that matters
-abbrev AllOther : List String → Type 0
-AllOther [] = Unit
-AllOther (op ∷ ops) = (sortOf (the op) ≡ other) × AllOther ops
-
-abbrev Quiet : Option Strength → Type 0
-Quiet none = Unit
-Quiet (some (between ops)) = AllOther ops
-Quiet (some (before op)) = sortOf (the op) ≡ other
-
-abbrev AllQuiet : List Strength → Type 0
-AllQuiet [] = Unit
-AllQuiet (b ∷ bs) = Quiet (some b) × AllQuiet bs
-
-quiet-at : (l : List Strength) (n : ℕ) → AllQuiet l → Quiet (getElem? l n)
-quiet-at [] n x = tt
-quiet-at (b ∷ l) zero x = x .0
-quiet-at (b ∷ l) (suc n) x = quiet-at l n (x .1)
-
-all-quiet : AllQuiet binding
+all-quiet : quiet.AllQuiet Sort sortOf other binding
 unfolding binding sortOf
-all-quiet = ((refl, (refl, (refl, (refl, tt)))), ((refl, tt), ((refl, tt), (refl, ((refl, (refl, tt)), ((refl, (refl, (refl, tt))), tt))))))
+all-quiet = (refl, (refl, (refl, (refl, (refl, (refl, tt))))))
 
 -- ---- what every part says
 
@@ -258,7 +240,7 @@ module _ (p q : List ℕ → Bool) where
   unfolding fits onward next fromPassing
   on-passing d op {w} {ws} {tail} o a b = ate (passing d) (the op) a b ∙ ap (λ (c : Sort). held (fits p q (passing d) c) (onward c (W (next (passing d) c (w .bytes)) tail))) o
 
-  tier-rows : (n : ℕ) (s : Option Strength) → Quiet s → Rows Term TermMet (tier n s) (makesTier n s)
+  tier-rows : (n : ℕ) (s : Option Strength) → quiet.Quiet Sort sortOf other s → Rows Term TermMet (tier n s) (makesTier n s)
   unfolding make allowsTerm
   tier-rows n none o = operand-rows n
   tier-rows n (some (between ops)) o = go
@@ -292,19 +274,19 @@ module _ (p q : List ℕ → Bool) where
       by true x = f .0 at a b
       by false x = x
 
-  operator-rows : (n : ℕ) (ops : List String) → AllOther ops → Rows (Term → Term) FurtherMet (map (λ op. op ▸ Tier (suc n) ▹ Further n ▹ ε) ops) (makesOperators n ops)
+  operator-rows : (n : ℕ) (ops : List String) → quiet.AllOther Sort sortOf other ops → Rows (Term → Term) FurtherMet (map (λ op. op ▸ Tier (suc n) ▹ Further n ▹ ε) ops) (makesOperators n ops)
   unfolding make makesOperators
   operator-rows n [] o k ws rest i h vs x = absurd (omega arith)
   operator-rows n (op ∷ ops) o k ws rest zero h vs (t₁, a₁, b₁, (m₂, y₂, (m₃, y₃, z))) = (
-    λ e u c. ending (y₃ .0 (joinedBy operators op (vs .0 .place) e (vs .1 .0)) u (subst (λ (b : Bool). Comes u b (W calm m₂)) (sym (joined-allows operators joins op (vs .0 .place) e (vs .1 .0))) (chain c (onto (on-calm op (o .0) a₁ b₁) (y₂ .0))))) (ap (W calm) z),
-    λ d. on-passing d op (o .0) a₁ b₁ ∙ y₂ .1 d ∙ y₃ .1 d ∙ ap (W (passing d)) z,
+    λ e u c. ending (y₃ .0 (joinedBy operators op (vs .0 .place) e (vs .1 .0)) u (subst (λ (b : Bool). Comes u b (W calm m₂)) (sym (joined-allows operators joins op (vs .0 .place) e (vs .1 .0))) (chain c (onto (on-calm op (quiet.first-other Sort sortOf other op ops o) a₁ b₁) (y₂ .0))))) (ap (W calm) z),
+    λ d. on-passing d op (quiet.first-other Sort sortOf other op ops o) a₁ b₁ ∙ y₂ .1 d ∙ y₃ .1 d ∙ ap (W (passing d)) z,
   )
-  operator-rows n (op ∷ ops) o k ws rest (suc i) h vs x = operator-rows n ops (o .1) k ws rest i (le-of-suc-le-suc h) vs x
+  operator-rows n (op ∷ ops) o k ws rest (suc i) h vs x = operator-rows n ops (quiet.later-other Sort sortOf other op ops o) k ws rest i (le-of-suc-le-suc h) vs x
 
   nothing-further : (ws rest : Text) → ws ≡ rest → FurtherMet ws (λ left. left) rest
   nothing-further ws rest z = (λ e u c. ending c (ap (W calm) z), λ d. ap (W (passing d)) z)
 
-  further-rows : (n : ℕ) (s : Option Strength) → Quiet s → Rows (Term → Term) FurtherMet (further n s) (makesFurther n s)
+  further-rows : (n : ℕ) (s : Option Strength) → quiet.Quiet Sort sortOf other s → Rows (Term → Term) FurtherMet (further n s) (makesFurther n s)
   unfolding make
   further-rows n none o k ws rest zero h vs x = nothing-further ws rest x
   further-rows n none o k ws rest (suc i) h vs x = absurd (omega arith)
@@ -315,11 +297,11 @@ module _ (p q : List ℕ → Bool) where
 
   tier-all : (n : ℕ) → Rows Term TermMet (csml (Tier n)) (makes (Tier n))
   unfolding csml makes
-  tier-all n = tier-rows n (getElem? binding n) (quiet-at binding n all-quiet)
+  tier-all n = tier-rows n (getElem? binding n) (quiet.quiet-at Sort sortOf other binding n all-quiet)
 
   further-all : (n : ℕ) → Rows (Term → Term) FurtherMet (csml (Further n)) (makes (Further n))
   unfolding csml makes
-  further-all n = further-rows n (getElem? binding n) (quiet-at binding n all-quiet)
+  further-all n = further-rows n (getElem? binding n) (quiet.quiet-at Sort sortOf other binding n all-quiet)
 
   -- ---- statements
 

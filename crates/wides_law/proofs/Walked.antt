@@ -22,6 +22,7 @@ use Rattle.language.proofs.Claims.{follow}
 use Rattle.descent_law.specs.Gives.{RowGives, Gives}
 use Rattle.descent_law.specs.Told.{kindOf, Told, Called}
 use Rattle.descent_law.proofs.Given.{row-more}
+use Rattle.uses_law.proofs.Operators as quiet
 use Rattle.uses_law.proofs.Walked.{allNext, has-next, index-follows}
 use Rattle.wides_law.specs.Wides.{Sort, aName, opens, closes, comma, begins, parts, ends, last, other, sortOf, State, calm, named, calling, seen, fromCalm, fromName, fromCalling, next, most, Around, Acts, parted, ended, raised, atClose, step, onward, walk}
 
@@ -52,28 +53,9 @@ follow-harmless = refl
 
 -- ---- operators
 
--- an operator is no word that matters
-abbrev AllOther : List String → Type 0
-AllOther [] = Unit
-AllOther (op ∷ ops) = (sortOf (the op) ≡ other) × AllOther ops
-
-abbrev Quiet : Option Strength → Type 0
-Quiet none = Unit
-Quiet (some (between ops)) = AllOther ops
-Quiet (some (before op)) = sortOf (the op) ≡ other
-
-abbrev AllQuiet : List Strength → Type 0
-AllQuiet [] = Unit
-AllQuiet (b ∷ bs) = Quiet (some b) × AllQuiet bs
-
-quiet-at : (l : List Strength) (n : ℕ) → AllQuiet l → Quiet (getElem? l n)
-quiet-at [] n x = tt
-quiet-at (b ∷ l) zero x = x .0
-quiet-at (b ∷ l) (suc n) x = quiet-at l n (x .1)
-
-all-quiet : AllQuiet binding
+all-quiet : quiet.AllQuiet Sort sortOf other binding
 unfolding binding sortOf
-all-quiet = ((refl, (refl, (refl, (refl, tt)))), ((refl, tt), ((refl, tt), (refl, ((refl, (refl, tt)), ((refl, (refl, (refl, tt))), tt))))))
+all-quiet = (refl, (refl, (refl, (refl, (refl, (refl, tt))))))
 
 -- ---- activities
 
@@ -254,7 +236,7 @@ module _ (ps : List Wide) (wideOf : List ℕ → ℕ → ℕ) (wide-is : (v : Na
   unfolding onward next fromCalling step
   on-calling x d n a op {w} {ws} {tail} o e f = ate (calling x d n) a (the op) e f ∙ ap (λ (c : Sort). onward wideOf (calling x d n) c (a .here) (W (next (calling x d n) c (w .bytes)) (step wideOf (calling x d n) c a) tail)) o
 
-  tier-rows : (n : ℕ) (s : Option Strength) → Quiet s → Rows Term TermMet (tier n s) (makesTier n s)
+  tier-rows : (n : ℕ) (s : Option Strength) → quiet.Quiet Sort sortOf other s → Rows Term TermMet (tier n s) (makesTier n s)
   unfolding make
   tier-rows n none o = operand-rows n
   tier-rows n (some (between ops)) o = go
@@ -270,19 +252,19 @@ module _ (ps : List Wide) (wideOf : List ℕ → ℕ → ℕ) (wide-is : (v : Na
       go k ws rest (suc zero) h vs (m₁, y₁, z) = (λ a. y₁ .0 a ∙ ap (W calm a) z, λ x d c a. y₁ .1 x d c a ∙ ap (W (calling x d (seen c)) a) z)
       go k ws rest (suc (suc i)) h vs x = absurd (omega arith)
 
-  operator-rows : (n : ℕ) (ops : List String) → AllOther ops → Rows (Term → Term) FurtherMet (map (λ op. op ▸ Tier (suc n) ▹ Further n ▹ ε) ops) (makesOperators n ops)
+  operator-rows : (n : ℕ) (ops : List String) → quiet.AllOther Sort sortOf other ops → Rows (Term → Term) FurtherMet (map (λ op. op ▸ Tier (suc n) ▹ Further n ▹ ε) ops) (makesOperators n ops)
   unfolding make makesOperators
   operator-rows n [] o k ws rest i h vs x = absurd (omega arith)
   operator-rows n (op ∷ ops) o k ws rest zero h vs (t₁, a₁, b₁, (m₂, y₂, (m₃, y₃, z))) = (
-    λ a. on-calm a op (o .0) a₁ b₁ ∙ y₂ .0 a ∙ y₃ .0 a ∙ ap (W calm a) z,
-    λ x d c a. on-calling x d (seen c) a op (o .0) a₁ b₁ ∙ again x d c a t₁ ∙ y₂ .1 x d (seen c) a ∙ again x d c a m₂ ∙ y₃ .1 x d c a ∙ ap (W (calling x d (seen c)) a) z,
+    λ a. on-calm a op (quiet.first-other Sort sortOf other op ops o) a₁ b₁ ∙ y₂ .0 a ∙ y₃ .0 a ∙ ap (W calm a) z,
+    λ x d c a. on-calling x d (seen c) a op (quiet.first-other Sort sortOf other op ops o) a₁ b₁ ∙ again x d c a t₁ ∙ y₂ .1 x d (seen c) a ∙ again x d c a m₂ ∙ y₃ .1 x d c a ∙ ap (W (calling x d (seen c)) a) z,
   )
-  operator-rows n (op ∷ ops) o k ws rest (suc i) h vs x = operator-rows n ops (o .1) k ws rest i (le-of-suc-le-suc h) vs x
+  operator-rows n (op ∷ ops) o k ws rest (suc i) h vs x = operator-rows n ops (quiet.later-other Sort sortOf other op ops o) k ws rest i (le-of-suc-le-suc h) vs x
 
   nothing-further : (ws rest : Text) → ws ≡ rest → FurtherMet ws (λ left. left) rest
   nothing-further ws rest z = (λ a. ap (W calm a) z, λ x d c a. ap (W (calling x d (seen c)) a) z)
 
-  further-rows : (n : ℕ) (s : Option Strength) → Quiet s → Rows (Term → Term) FurtherMet (further n s) (makesFurther n s)
+  further-rows : (n : ℕ) (s : Option Strength) → quiet.Quiet Sort sortOf other s → Rows (Term → Term) FurtherMet (further n s) (makesFurther n s)
   unfolding make
   further-rows n none o k ws rest zero h vs x = nothing-further ws rest x
   further-rows n none o k ws rest (suc i) h vs x = absurd (omega arith)
@@ -293,11 +275,11 @@ module _ (ps : List Wide) (wideOf : List ℕ → ℕ → ℕ) (wide-is : (v : Na
 
   tier-all : (n : ℕ) → Rows Term TermMet (csml (Tier n)) (makes (Tier n))
   unfolding csml makes
-  tier-all n = tier-rows n (getElem? binding n) (quiet-at binding n all-quiet)
+  tier-all n = tier-rows n (getElem? binding n) (quiet.quiet-at Sort sortOf other binding n all-quiet)
 
   further-all : (n : ℕ) → Rows (Term → Term) FurtherMet (csml (Further n)) (makes (Further n))
   unfolding csml makes
-  further-all n = further-rows n (getElem? binding n) (quiet-at binding n all-quiet)
+  further-all n = further-rows n (getElem? binding n) (quiet.quiet-at Sort sortOf other binding n all-quiet)
 
   -- ---- statements
 

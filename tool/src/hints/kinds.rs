@@ -3,17 +3,17 @@
 use super::{quoted, Around, Hint};
 use crate::names::{Class, Names};
 
-const BRACKETS: &str = "brackets around comparisons, as in `(a > 1) & (b == 2)`";
+const IN_TWOS: &str = "two at a time, as in `a > 1 & a < 4`; `int(..)` makes an integer of a boolean";
 
 pub fn hint(source: &[u8], around: &Around) -> Hint {
     match around.word {
         b"&" | b"|" => no_booleans().rule("`&` and `|` take two booleans"),
         b"!" => Hint::found("its operand is no boolean").rule("`!` takes a boolean").right("a comparison, as `x == 0`"),
         b"+" | b"-" | b"*" | b"/" | b"%" => no_integers().rule("`+`, `-`, `*`, `/` and `%` take two integers"),
-        b">" | b"<" => no_integers().rule("`>` and `<` take two integers, and bind weakest").right(BRACKETS),
+        b">" | b"<" => no_integers().rule("`>` and `<` take two integers and make a boolean").right(IN_TWOS),
         b"==" | b"!=" => Hint::found("its operands are a boolean and an integer")
-            .rule("`==` and `!=` take two booleans or two integers, and bind weakest")
-            .right(BRACKETS),
+            .rule("`==` and `!=` take two booleans or two integers and make a boolean")
+            .right(IN_TWOS),
         b"int" => Hint::found("its operand is no boolean")
             .rule("`int` makes an integer of a boolean")
             .right("an integer is written as it is"),

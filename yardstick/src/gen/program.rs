@@ -236,7 +236,7 @@ impl Writer<'_> {
 
     fn if_statement(&mut self, activities: usize, levels: usize) {
         self.put("if");
-        self.comparison(3);
+        self.condition(3);
         self.put("then");
         self.list(activities, levels);
         if self.random.one_in(2) {
@@ -253,7 +253,7 @@ impl Writer<'_> {
 
     fn while_statement(&mut self, activities: usize, levels: usize) {
         self.put("while");
-        self.comparison(3);
+        self.condition(3);
         self.put("do loop");
         self.loop_body(activities, levels);
     }
@@ -263,7 +263,7 @@ impl Writer<'_> {
         self.list(activities, levels);
         if self.random.one_in(2) && self.words.last().is_some_and(|word| word != ";") {
             self.put("; if");
-            self.comparison(2);
+            self.condition(2);
             self.put("then exit endif");
         }
         self.loops -= 1;
@@ -275,7 +275,7 @@ impl Writer<'_> {
         self.put("switch");
         for _ in 0..self.random.between(1, 3) {
             self.put("case");
-            self.comparison(2);
+            self.condition(2);
             self.put(":");
             self.list(activities, levels);
             if self.random.one_in(2) && self.words.last().is_some_and(|word| word != ";") {
@@ -394,7 +394,7 @@ impl Writer<'_> {
 
     fn actual(&mut self, formal: Formal) {
         match formal {
-            Formal::Truth => self.comparison(2),
+            Formal::Truth => self.condition(2),
             Formal::Number => self.sum(2),
             Formal::Boolean => match self.bit() {
                 Some((name, bit)) if self.random.one_in(3) => self.put(&format!("{name} [ {bit} ]")),
@@ -419,7 +419,16 @@ impl Writer<'_> {
 
 /// Expressions, written as the grammar binds them; `depth` is how many more operators may nest.
 impl Writer<'_> {
-    /// A boolean: integers or booleans compared, or what binds more tightly.
+    /// A boolean: every operator that gives one, the loosest first.
+    fn condition(&mut self, depth: usize) {
+        self.row(&["&"], depth, Self::disjunction);
+    }
+
+    fn disjunction(&mut self, depth: usize) {
+        self.row(&["|"], depth, Self::comparison);
+    }
+
+    /// Integers compared, or booleans, or what binds more tightly.
     fn comparison(&mut self, depth: usize) {
         if depth > 0 && self.random.one_in(3) {
             self.sum(depth - 1);
@@ -427,17 +436,13 @@ impl Writer<'_> {
             self.put(operator);
             self.sum(depth - 1);
         } else {
-            self.row(&["&"], depth, Self::disjunction);
+            self.negation(depth);
         }
         while depth > 0 && self.random.one_in(6) {
             let operator = self.random.of(&["==", "!="]);
             self.put(operator);
-            self.row(&["&"], depth - 1, Self::disjunction);
+            self.negation(depth - 1);
         }
-    }
-
-    fn disjunction(&mut self, depth: usize) {
-        self.row(&["|"], depth, Self::negation);
     }
 
     fn negation(&mut self, depth: usize) {
@@ -450,7 +455,7 @@ impl Writer<'_> {
     fn truth(&mut self, depth: usize) {
         if depth > 0 && self.random.one_in(4) {
             self.put("(");
-            self.comparison(depth - 1);
+            self.condition(depth - 1);
             return self.put(")");
         }
         match self.random.below(12) {
@@ -491,7 +496,7 @@ impl Writer<'_> {
             }
             1 | 2 => {
                 self.put("int (");
-                self.comparison(depth.saturating_sub(1));
+                self.condition(depth.saturating_sub(1));
                 self.put(")");
             }
             3..=5 if !self.integers.is_empty() => {

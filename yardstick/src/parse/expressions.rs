@@ -5,12 +5,12 @@ use crate::tree::Operator;
 use crate::words::Kind;
 use crate::written::{Expr, ExprKind, Link, Need};
 
-/// How tightly the binary operators bind: "lowest to highest, `== != > <`; `&`; `|`; `!`; `+ -`; `* / %`."
+/// How tightly the binary operators bind: "lowest to highest: `&`; `|`; `== != > <`; `!`; `+ -`; `* / %`."
 #[derive(Clone, Copy, PartialEq, Eq)]
 enum Binding {
-    Comparison,
     And,
     Or,
+    Comparison,
     Sum,
     Product,
 }
@@ -18,7 +18,7 @@ enum Binding {
 /// Expressions.
 impl Parser<'_> {
     pub(super) fn expression(&mut self) -> Parsed<Expr> {
-        self.row(Binding::Comparison)
+        self.row(Binding::And)
     }
 
     /// "Binary operators group from the left."
@@ -39,15 +39,15 @@ impl Parser<'_> {
     /// An operand of the operators of one binding: what binds more tightly.
     fn operand(&mut self, binding: Binding) -> Parsed<Expr> {
         match binding {
-            Binding::Comparison => self.row(Binding::And),
             Binding::And => self.row(Binding::Or),
-            Binding::Or => self.negation(),
+            Binding::Or => self.row(Binding::Comparison),
+            Binding::Comparison => self.negation(),
             Binding::Sum => self.row(Binding::Product),
             Binding::Product => self.primary(),
         }
     }
 
-    /// `!` binds more tightly than `|`, less than `+`: "an arithmetic operator's operand can't begin with `!`".
+    /// `!` binds more tightly than `==`, less than `+`: "an arithmetic operator's operand can't begin with `!`".
     fn negation(&mut self) -> Parsed<Expr> {
         if self.peek() != Some(Kind::Not) {
             return self.row(Binding::Sum);
@@ -99,12 +99,12 @@ impl Parser<'_> {
 /// The operator that a word is, if it has the given binding.
 fn operator(kind: Kind, binding: Binding) -> Option<Operator> {
     Some(match (binding, kind) {
+        (Binding::And, Kind::And) => Operator::And,
+        (Binding::Or, Kind::Bar) => Operator::Or,
         (Binding::Comparison, Kind::Equal) => Operator::Equal,
         (Binding::Comparison, Kind::Unequal) => Operator::Unequal,
         (Binding::Comparison, Kind::Greater) => Operator::Greater,
         (Binding::Comparison, Kind::Less) => Operator::Less,
-        (Binding::And, Kind::And) => Operator::And,
-        (Binding::Or, Kind::Bar) => Operator::Or,
         (Binding::Sum, Kind::Plus) => Operator::Add,
         (Binding::Sum, Kind::Minus) => Operator::Subtract,
         (Binding::Product, Kind::Times) => Operator::Multiply,

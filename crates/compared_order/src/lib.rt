@@ -1,0 +1,1 @@
+// The definitions against the yardstick: computed listings. No code.
