@@ -1,5 +1,5 @@
-//! A program that others wrote reads the KISS texts of four examples: the logic that `berkeley-abc` makes of them, walked
-//! through from its start, has our states and our rows. `tests/kiss` runs this where it is installed.
+//! A program that others wrote reads the KISS texts of four examples: the logic that `berkeley-abc` makes of them,
+//! walked through from its start, has our states and our rows. `tests/kiss` runs this where the program is installed.
 
 mod common;
 
