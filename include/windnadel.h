@@ -10,7 +10,9 @@
  *
  * and on the machine where programs are written:
  *
- *     windnadel_compile   a source into a table file
+ *     windnadel_compile      a source into a table file
+ *     windnadel_kiss_write   a table file into KISS2 text
+ *     windnadel_kiss_read    such a text back into its table file
  *
  * Inputs and outputs are numbers by bits: the first declared is bit 0.
  *
@@ -29,10 +31,12 @@
  *
  *     rt staticlib stepper     libstepper.a: open, step, outputs
  *     rt staticlib compiler    libcompiler.a: compile
+ *     rt staticlib kiss_write  libkiss_write.a: writing KISS text
+ *     rt staticlib kiss_read   libkiss_read.a: reading KISS text
  *
- * Linking. An archive is one object and stands alone or beside the other, in
- * any order. It needs no C library: libstepper.a asks for nothing, libcompiler.a
- * for memcpy and memset at most. For example
+ * Linking. An archive is one object and stands alone or beside the others, in
+ * any order. It needs no C library: libstepper.a and libkiss_write.a ask for
+ * nothing, the two others for memcpy and memset at most. For example
  *
  *     gcc -std=c99 -Iinclude main.c table.c target/staticlib/libstepper.a
  *
@@ -42,6 +46,8 @@
  * deep as a source nests, 32 levels at most, and as deep as its calls go; it takes
  * less than 192 KB of stack for a source without calls, and less than 640 KB for
  * the longest chain of calls that a source can hold.
+ * libkiss_write.a and libkiss_read.a have 4 and 7 KB of code and constants, and no
+ * data; writing takes less than 1.6 KB of stack, reading less than 6 KB.
  */
 #ifndef WINDNADEL_H
 #define WINDNADEL_H
@@ -121,6 +127,34 @@ static inline uint32_t windnadel_compile_blocks(uint64_t answer)
 {
     return (uint32_t)(answer >> 16) & 0xFFFFu;
 }
+
+/* Refusals of KISS text: the buffer is too short; no table has such a text. */
+#define WINDNADEL_SHORT_BUFFER 12u
+#define WINDNADEL_NO_TEXT 15u
+
+/* Enough for every KISS text: 34 bytes for each of 16,384 rows, and 36 more. */
+#define WINDNADEL_LONGEST_TEXT 557092u
+
+/*
+ * Writes the KISS2 text of a table file to text[0] on, leaves what is past it,
+ * and answers the text's length. Otherwise it answers refusal * 2^32 + place and
+ * leaves the whole text buffer alone. The first of these that holds decides:
+ * - the file is not sound: refusal and place as windnadel_open has them;
+ * - it has no inputs or no outputs: 15 at 0;
+ * - text_len is below the text's length: 12 at 0.
+ */
+uint64_t windnadel_kiss_write(const uint8_t *file, size_t len, uint8_t *text, size_t text_len);
+
+/*
+ * Reads a text that windnadel_kiss_write can write, and no other, writes the
+ * table file that it is the text of to file[0] on, leaves what is past it, and
+ * answers the file's blocks. Otherwise it answers refusal * 2^32 + place and
+ * leaves the whole file buffer alone. The first of these that holds decides:
+ * - no table has this text: 15 at the first byte with which no text goes on so,
+ *   or at text_len where the text stops early;
+ * - file_len is below the file's length: 12 at 0.
+ */
+uint64_t windnadel_kiss_read(const uint8_t *text, size_t text_len, uint8_t *file, size_t file_len);
 
 /*
  * Reads the whole file and answers the outputs of state 0 (0 to 65,535) where

@@ -1,4 +1,4 @@
-//! Links the proved archives: libcompiler.a and libstepper.a of WINDNADEL_ARCHIVES, or of ../target/staticlib.
+//! Links the proved archives of WINDNADEL_ARCHIVES, or of ../target/staticlib.
 
 use std::env;
 use std::path::{Path, PathBuf};
@@ -9,7 +9,7 @@ fn main() {
     let archives = env::var_os("WINDNADEL_ARCHIVES").map_or(made, PathBuf::from);
     println!("cargo:rerun-if-env-changed=WINDNADEL_ARCHIVES");
     println!("cargo:rustc-link-search=native={}", archives.display());
-    for name in ["compiler", "stepper"] {
+    for name in ["compiler", "stepper", "kiss_write", "kiss_read"] {
         let archive = archives.join(format!("lib{name}.a"));
         assert!(archive.is_file(), "{} is not there: `rt staticlib {name}` makes it", archive.display());
         println!("cargo:rerun-if-changed={}", archive.display());

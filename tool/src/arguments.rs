@@ -5,6 +5,13 @@ use std::os::unix::ffi::OsStrExt;
 
 use crate::safe;
 
+/// The options that a command takes, beside `--help`.
+#[derive(Clone, Copy)]
+pub struct Takes {
+    pub output: bool,
+    pub room: bool,
+}
+
 #[derive(Default)]
 pub struct Arguments {
     /// All that is no option, in order.
@@ -18,7 +25,7 @@ pub struct Arguments {
 
 impl Arguments {
     /// Reads them; `-o` and `--room` where the command takes them.
-    pub fn read(given: impl Iterator<Item = OsString>, takes_options: bool) -> Result<Arguments, String> {
+    pub fn read(given: impl Iterator<Item = OsString>, takes: Takes) -> Result<Arguments, String> {
         let mut given = given;
         let mut arguments = Arguments::default();
         while let Some(word) = given.next() {
@@ -27,10 +34,10 @@ impl Arguments {
                     arguments.words.extend(given.by_ref());
                 }
                 b"--help" | b"-h" => arguments.help = true,
-                b"-o" if takes_options => {
+                b"-o" if takes.output => {
                     arguments.output = Some(given.next().ok_or("-o wants a file's name")?);
                 }
-                b"--room" if takes_options => {
+                b"--room" if takes.room => {
                     arguments.room = Some(room(&given.next().ok_or("--room wants a number")?)?);
                 }
                 [b'-', _, ..] => return Err(format!("there is no option {}", safe::path(&word))),

@@ -16,12 +16,15 @@ extern "C" {
     fn windnadel_open(file: *const u8, len: usize) -> u64;
     fn windnadel_step(file: *const u8, len: usize, state: u32, input: u32) -> u32;
     fn windnadel_outputs(file: *const u8, len: usize, state: u32) -> u32;
+    fn windnadel_kiss_write(file: *const u8, len: usize, text: *mut u8, text_len: usize) -> u64;
+    fn windnadel_kiss_read(text: *const u8, text_len: usize, file: *mut u8, file_len: usize) -> u64;
 }
 
-/// Bytes in a block, in the largest file, and in the longest source.
+/// Bytes in a block, in the largest file, in the longest source, and enough for every KISS text.
 pub const BLOCK: usize = 512;
 pub const LARGEST_FILE: usize = 67 * BLOCK;
 pub const LONGEST_SOURCE: usize = 8_192;
+pub const LONGEST_TEXT: usize = 557_092;
 
 pub const LARGEST_ROOM: u32 = 256;
 const LARGEST_WORK: usize = 32_768 + 64 * LARGEST_ROOM as usize;
@@ -72,6 +75,24 @@ pub fn step(file: &[u8], state: u32, input: u32) -> Result<u32, Refusal> {
 pub fn outputs(file: &[u8], state: u32) -> Result<u32, Refusal> {
     // SAFETY: as for open.
     plain_or_refusal(unsafe { windnadel_outputs(file.as_ptr(), file.len(), state) })
+}
+
+/// The KISS text of a table file, with all lent that any text can ask for.
+pub fn kiss_write(file: &[u8]) -> Result<Vec<u8>, Refusal> {
+    let mut text = vec![0; LONGEST_TEXT];
+    // SAFETY: two slices that do not overlap, each with its own length; the call stays inside them.
+    let answer = unsafe { windnadel_kiss_write(file.as_ptr(), file.len(), text.as_mut_ptr(), text.len()) };
+    text.truncate(value_or_refusal(answer)? as usize);
+    Ok(text)
+}
+
+/// The table file of a KISS text.
+pub fn kiss_read(text: &[u8]) -> Result<Vec<u8>, Refusal> {
+    let mut file = vec![0; LARGEST_FILE];
+    // SAFETY: as for kiss_write.
+    let answer = unsafe { windnadel_kiss_read(text.as_ptr(), text.len(), file.as_mut_ptr(), file.len()) };
+    file.truncate(value_or_refusal(answer)? as usize * BLOCK);
+    Ok(file)
 }
 
 /// A value below 2^32, or refusal * 2^32 + place.

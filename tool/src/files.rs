@@ -4,7 +4,7 @@ use std::ffi::OsStr;
 use std::fs::File;
 use std::io::{self, Read, Write};
 
-use crate::calls::{LARGEST_FILE, LONGEST_SOURCE};
+use crate::calls::{LARGEST_FILE, LONGEST_SOURCE, LONGEST_TEXT};
 use crate::safe;
 use crate::trouble::Trouble;
 
@@ -24,9 +24,14 @@ pub fn table_or_source(path: &OsStr) -> Result<Text, Trouble> {
     read(path, LARGEST_FILE + 1)
 }
 
+/// A KISS text. One byte past the longest is enough to have it refused as the whole would be.
+pub fn kiss_text(path: &OsStr) -> Result<Text, Trouble> {
+    read(path, LONGEST_TEXT + 1)
+}
+
 fn read(path: &OsStr, most: usize) -> Result<Text, Trouble> {
     let standard = path == "-";
-    let name = if standard { "standard input".to_string() } else { safe::path(path) };
+    let name = name(path);
     let bytes = if standard {
         first_bytes(io::stdin().lock(), most)
     } else {
@@ -35,6 +40,15 @@ fn read(path: &OsStr, most: usize) -> Result<Text, Trouble> {
     match bytes {
         Ok(bytes) => Ok(Text { name, bytes }),
         Err(error) => Err(Trouble::System(name, error)),
+    }
+}
+
+/// What to call a file.
+pub fn name(path: &OsStr) -> String {
+    if path == "-" {
+        "standard input".to_string()
+    } else {
+        safe::path(path)
     }
 }
 

@@ -36,6 +36,26 @@ impl Message {
         Message { refusal, place: name.to_string(), excerpt: None, hint }
     }
 
+    /// A KISS text that was not read.
+    pub fn of_kiss(text: &Text, refusal: Refusal) -> Message {
+        let excerpt = Excerpt::of(&text.bytes, refusal.place, 1);
+        let place = format!("{}:{}:{}", text.name, excerpt.line, excerpt.column);
+        Message { refusal, place, excerpt: Some(excerpt), hint: hints::kiss::hint(&text.bytes, refusal.place) }
+    }
+
+    /// A machine that has no KISS text.
+    pub fn of_unwired(name: &str, inputs: usize, outputs: usize, refusal: Refusal) -> Message {
+        let missing = match (inputs, outputs) {
+            (0, 0) => "no inputs and no outputs",
+            (0, _) => "no inputs",
+            _ => "no outputs",
+        };
+        let hint = Hint::found(format!("the machine has {missing}"))
+            .rule("a machine has a KISS text if it has inputs and outputs")
+            .right("declare one input and one output at least");
+        Message { refusal, place: name.to_string(), excerpt: None, hint }
+    }
+
     /// A refusal of which no more is known.
     pub fn bare(refusal: Refusal) -> Message {
         Message { refusal, place: "the table".to_string(), excerpt: None, hint: Hint::default() }

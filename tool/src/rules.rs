@@ -1,4 +1,4 @@
-//! The fourteen refusals in plain words, for messages and for `explain`.
+//! The fifteen refusals in plain words, for messages and for `explain`.
 
 pub struct Rule {
     pub title: &'static str,
@@ -17,12 +17,12 @@ pub enum Example {
     Way(&'static str),
 }
 
-/// The rule with this number, 1 to 14.
+/// The rule with this number, 1 to 15.
 pub fn rule(number: u32) -> Option<&'static Rule> {
     RULES.get((number as usize).checked_sub(1)?)
 }
 
-const RULES: [Rule; 14] = [
+const RULES: [Rule; 15] = [
     Rule {
         title: "no such room",
         place: "0",
@@ -133,8 +133,9 @@ const RULES: [Rule; 14] = [
     Rule {
         title: "the file buffer is short",
         place: "0",
-        rule: "the whole table file must fit into the buffer that is lent for it",
-        right: "lend 34,304 bytes, enough for every table; the tool always does, so only a C program meets this",
+        rule: "the whole table file, or KISS text, must fit into the buffer that is lent for it",
+        right: "lend 34,304 bytes, enough for every table, or 557,092, enough for every KISS text; the tool always does, so \
+                only a C program meets this",
         example: Example::Way("windnadel_compile(source, length, 256, work, 49152, file, 511)"),
     },
     Rule {
@@ -150,5 +151,12 @@ const RULES: [Rule; 14] = [
         rule: "a step takes a state of the table, and an input below 2 to the number of its inputs",
         right: "the run goes on from the same state: give an input that the table has",
         example: Example::Way("windnadel run blink.csml 2, which has one input: 0 and 1 are all there is"),
+    },
+    Rule {
+        title: "no table has such a KISS text",
+        place: "the first byte with which no such text goes on, or the length of a text that stops early; 0 when writing",
+        rule: "a KISS text is what `kiss` writes, byte for byte, and a machine has one if it has inputs and outputs",
+        right: "write the text by `kiss` again, or say it as `kiss` would",
+        example: Example::Way("windnadel unkiss of a text that begins with `.i 7`: there are at most 6 inputs"),
     },
 ];

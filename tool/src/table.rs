@@ -31,6 +31,11 @@ impl Table {
         1 << self.inputs
     }
 
+    /// Its KISS text.
+    pub fn kiss(&self) -> Result<Vec<u8>, Refusal> {
+        calls::kiss_write(&self.file)
+    }
+
     pub fn outputs_of(&self, state: u32) -> Result<u32, Refusal> {
         calls::outputs(&self.file, state)
     }

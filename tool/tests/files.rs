@@ -12,7 +12,7 @@ use std::time::{Duration, Instant};
 
 use common::{example, examples, tool, Folder, Said, TOOL};
 
-const READING: [&str; 7] = ["compile", "check", "list", "run", "vcd", "draw", "open"];
+const READING: [&str; 8] = ["compile", "check", "list", "run", "vcd", "draw", "open", "kiss"];
 
 fn text(path: &Path) -> &str {
     path.to_str().unwrap()

@@ -4,7 +4,7 @@ mod common;
 
 use common::{example, os, tool, tool_with, Folder};
 
-const COMMANDS: [&str; 8] = ["compile", "check", "list", "run", "vcd", "draw", "open", "explain"];
+const COMMANDS: [&str; 10] = ["compile", "check", "list", "run", "vcd", "draw", "open", "kiss", "unkiss", "explain"];
 
 fn is_bad_usage(arguments: &[&str], words: &str) {
     let said = tool(arguments);
@@ -37,7 +37,7 @@ fn what_makes_no_command_is_told() {
         is_bad_usage(&[command], "wanted");
         is_bad_usage(&[command, "--nosuch", "x"], "there is no option --nosuch");
     }
-    for command in ["compile", "check", "list", "draw", "open", "explain"] {
+    for command in ["compile", "check", "list", "draw", "open", "kiss", "unkiss", "explain"] {
         is_bad_usage(&[command, "one", "two"], "two is one too many");
     }
     is_bad_usage(&["compile", "x", "-o"], "-o wants");
@@ -47,9 +47,13 @@ fn what_makes_no_command_is_told() {
     is_bad_usage(&["check", "x", "--room", "1"], "there is no option --room");
     is_bad_usage(&["compile", "-"], "has no name");
     is_bad_usage(&["compile", "x", "-o", "-"], "-o wants a file");
+    is_bad_usage(&["kiss", "x", "-o", "-"], "-o wants a file");
+    is_bad_usage(&["kiss", "x", "--room", "1"], "there is no option --room");
+    is_bad_usage(&["unkiss", "x"], "name it by -o");
+    is_bad_usage(&["unkiss", "x", "-o", "-"], "-o wants a file");
     is_bad_usage(&["run", "-"], "inputs are arguments");
     is_bad_usage(&["vcd", "-"], "inputs are arguments");
-    for number in ["0", "15", "-1x", "", "four", "4294967297", "99999999999"] {
+    for number in ["0", "16", "-1x", "", "four", "4294967297", "99999999999"] {
         is_bad_usage(&["explain", "--", number], "is no refusal");
     }
 }
@@ -78,7 +82,9 @@ fn a_name_that_looks_like_an_option_is_a_file_after_two_hyphens() {
 #[test]
 fn standard_input_is_a_hyphen() {
     let source = std::fs::read(example("blink.csml")).unwrap();
-    for arguments in [&["check", "-"][..], &["list", "-"], &["draw", "-"], &["run", "-", "1"], &["vcd", "-", "1"]] {
+    for arguments in
+        [&["check", "-"][..], &["list", "-"], &["draw", "-"], &["kiss", "-"], &["run", "-", "1"], &["vcd", "-", "1"]]
+    {
         let said = tool_with(arguments, &source);
         assert_eq!((said.status, said.err.as_str()), (Some(0), ""), "{arguments:?}");
     }
@@ -87,7 +93,7 @@ fn standard_input_is_a_hyphen() {
     let said = tool_with(&["compile", "-", "-o", target.to_str().unwrap()], &source);
     assert_eq!(said.status, Some(0));
     let table = std::fs::read(target).unwrap();
-    for arguments in [&["open", "-"][..], &["draw", "-"], &["run", "-", "1"]] {
+    for arguments in [&["open", "-"][..], &["draw", "-"], &["kiss", "-"], &["run", "-", "1"]] {
         assert_eq!(tool_with(arguments, &table).status, Some(0), "{arguments:?}");
     }
 }

@@ -2,7 +2,7 @@
 
 use crate::crc::crc32;
 use crate::refusal::Refusal;
-use crate::search::Table;
+use crate::search::{Row, Table};
 
 /// "A block has 512 bytes."
 pub const BLOCK: usize = 512;
@@ -76,6 +76,17 @@ pub fn open(file: &[u8]) -> Result<Controller, Refusal> {
         return Err(Refusal::at(13, 0));
     }
     Ok(Controller { state: 0, outputs: number_at(file, shape.outputs_at(0)) })
+}
+
+/// The table that a sound file holds.
+pub fn read(file: &[u8]) -> Result<Table, Refusal> {
+    open(file)?;
+    let shape = Shape::of(file).expect("a sound file has its sizes");
+    let row = |state: usize| Row {
+        outputs: number_at(file, shape.outputs_at(state)),
+        next: (0..1 << shape.inputs).map(|input| number_at(file, shape.next_at(state, input))).collect(),
+    };
+    Ok(Table { inputs: shape.inputs, outputs: shape.outputs, rows: (0..shape.states).map(row).collect() })
 }
 
 /// "The first block with a wrong number, total or check."

@@ -10,6 +10,8 @@ pub mod crc;
 pub mod expand;
 pub mod file;
 pub mod gen;
+pub mod kiss;
+pub mod kiss_batch;
 pub mod listing;
 pub mod parse;
 pub mod refusal;

@@ -4,6 +4,7 @@ use std::io::{self, BufReader, Read, Write};
 use std::process::ExitCode;
 
 use yardstick::batch::Record;
+use yardstick::kiss_batch::{Job, Task};
 use yardstick::listing::listing;
 use yardstick::{compile, gen, Lent};
 
@@ -14,7 +15,12 @@ const USAGE: &str = "usage: yardstick list < SOURCE
        yardstick gen-procedures SEED COUNT > RECORDS
        yardstick sources DIRECTORY < RECORDS
        yardstick read FILE..
-a record is a line `LEN ROOM WORK BUF`, LEN bytes of source, and one LF";
+       yardstick kiss < TABLE > TEXT
+       yardstick unkiss < TEXT > TABLE
+       yardstick kiss-gen SEED TABLES TEXTS > JOBS
+       yardstick kiss-batch < JOBS
+a record is a line `LEN ROOM WORK BUF`, LEN bytes of source, and one LF
+a job is a line `write LEN BUF` or `read LEN BUF`, LEN bytes of file or text, and one LF";
 
 fn main() -> ExitCode {
     let arguments: Vec<String> = std::env::args().skip(1).collect();
@@ -25,6 +31,13 @@ fn main() -> ExitCode {
         ["batch"] => batch(),
         ["sources", directory] => sources(directory),
         ["read", ref files @ ..] => read(files),
+        ["kiss"] => one(Task::Write),
+        ["unkiss"] => one(Task::Read),
+        ["kiss-batch"] => kiss_batch(),
+        ["kiss-gen", seed, tables, texts] => match (seed.parse(), tables.parse(), texts.parse()) {
+            (Ok(seed), Ok(tables), Ok(texts)) => kiss_generate(seed, tables, texts),
+            _ => return usage(),
+        },
         ["gen", seed, count] => match (seed.parse(), count.parse()) {
             (Ok(seed), Ok(count)) => generate(gen::records(seed), count),
             _ => return usage(),
@@ -114,5 +127,38 @@ fn generate(records: impl Iterator<Item = Record>, count: usize) -> io::Result<E
         record.write(&mut written)?;
     }
     written.flush()?;
+    Ok(ExitCode::SUCCESS)
+}
+
+/// One table file to its text, or one text to its table file.
+fn one(task: Task) -> io::Result<ExitCode> {
+    match (Job { task, bytes: source()?, buffer: u64::MAX }).done() {
+        Ok((_, bytes)) => {
+            io::stdout().write_all(&bytes)?;
+            Ok(ExitCode::SUCCESS)
+        }
+        Err(refusal) => {
+            eprintln!("{refusal}");
+            Ok(ExitCode::FAILURE)
+        }
+    }
+}
+
+fn kiss_batch() -> io::Result<ExitCode> {
+    let mut jobs = BufReader::new(io::stdin().lock());
+    let mut answers = io::BufWriter::new(io::stdout().lock());
+    while let Some(job) = Job::read(&mut jobs)? {
+        writeln!(answers, "{}", job.answer())?;
+    }
+    answers.flush()?;
+    Ok(ExitCode::SUCCESS)
+}
+
+fn kiss_generate(seed: u64, tables: usize, texts: usize) -> io::Result<ExitCode> {
+    let mut jobs = io::BufWriter::new(io::stdout().lock());
+    for job in gen::kiss::jobs(seed, tables, texts) {
+        job.write(&mut jobs)?;
+    }
+    jobs.flush()?;
     Ok(ExitCode::SUCCESS)
 }

@@ -7,10 +7,10 @@ use crate::safe;
 use crate::trouble::{Outcome, Status, Trouble};
 
 pub fn obey(arguments: Arguments) -> Outcome {
-    let word = super::only(arguments.words, "a refusal's number, 1 to 14,")?;
+    let word = super::only(arguments.words, "a refusal's number, 1 to 15,")?;
     let number = word.to_str().and_then(|word| word.parse().ok());
     let Some((number, rule)) = number.and_then(|number| Some((number, rules::rule(number)?))) else {
-        return Err(Trouble::Usage(format!("{} is no refusal: they are 1 to 14", safe::path(&word))));
+        return Err(Trouble::Usage(format!("{} is no refusal: they are 1 to 15", safe::path(&word))));
     };
     files::print(&explained(number, rule))?;
     Ok(Status::Done)

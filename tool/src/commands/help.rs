@@ -10,10 +10,12 @@ usage: windnadel COMMAND ..
   vcd TABLE|SOURCE [INPUT..]            the same run, for a waveform viewer
   draw TABLE|SOURCE                     the states as a Graphviz drawing
   open TABLE                            is the table file sound? its sizes
+  kiss TABLE|SOURCE [-o FILE]           the table as KISS2 text, for makers of logic
+  unkiss TEXT -o TABLE                  such a text back into its table file
   explain N                             refusal N in plain words
   COMMAND --help                        more about a command
 
-`-` as SOURCE or TABLE is standard input.
+`-` as SOURCE, TABLE or TEXT is standard input.
 Exit status: 0 done; 1 refused; 2 bad usage, or a file that can't be read or written.
 ";
 
@@ -85,8 +87,29 @@ usage: windnadel open TABLE
 Opens a table file as firmware does. Prints its sizes; or what is broken and where, and status 1.
 ";
 
+pub const KISS: &str = "\
+usage: windnadel kiss TABLE|SOURCE [-o FILE]
+
+Prints the table as Berkeley KISS2 text, or writes it to FILE, whole or not at all. A row is the
+inputs, the state, the next state and the state's outputs; the first declared bit is leftmost. A
+machine without inputs or without outputs has no such text: refusal 15.
+
+  -o FILE     the text's file; else it is printed
+";
+
+pub const UNKISS: &str = "\
+usage: windnadel unkiss TEXT -o TABLE
+
+Reads a text as `kiss` writes it, byte for byte, and writes the table file that it is the text of,
+whole or not at all. All else is refused with 15, at the first byte with which no such text goes on.
+
+  -o TABLE    the table file
+
+Prints one line: states, blocks and bytes.
+";
+
 pub const EXPLAIN: &str = "\
 usage: windnadel explain N
 
-Says in plain words what refusal N (1 to 14) means, what would be right, and gives an example.
+Says in plain words what refusal N (1 to 15) means, what would be right, and gives an example.
 ";

@@ -4,6 +4,7 @@
 mod calls;
 mod expected;
 mod kinds;
+pub mod kiss;
 mod names;
 mod sizes;
 mod words;
@@ -27,11 +28,11 @@ impl Hint {
         Hint { found: found.into(), ..Hint::default() }
     }
 
-    fn rule(self, rule: impl Into<String>) -> Hint {
+    pub fn rule(self, rule: impl Into<String>) -> Hint {
         Hint { rule: Some(rule.into()), ..self }
     }
 
-    fn right(self, right: impl Into<String>) -> Hint {
+    pub fn right(self, right: impl Into<String>) -> Hint {
         Hint { right: Some(right.into()), ..self }
     }
 }

@@ -5,6 +5,7 @@ mod damage;
 mod edges;
 mod expansions;
 mod faults;
+pub mod kiss;
 mod procedures;
 mod program;
 mod random;

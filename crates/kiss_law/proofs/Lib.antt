@@ -1,0 +1,9 @@
+pub mod Decimal
+pub mod Bits
+pub mod Rows
+pub mod Unique
+pub mod OneAnswer
+pub mod Round
+pub mod Fields
+pub mod Forms
+pub mod Trials

@@ -1,0 +1,4 @@
+pub mod Text
+pub mod Kiss
+pub mod Fields
+pub mod Forms
