@@ -7,7 +7,6 @@ use hand::Here;
 use parts::Notes;
 
 pub mod noted;
-pub mod rows;
 pub mod targets;
 
 // The notes, the least place of fault 8 (65,535: none), the statements and the nodes so far, and the activities.

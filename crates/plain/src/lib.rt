@@ -5,7 +5,7 @@ ghost use lib.ListN.{length};
 ghost use Prim.Native.Nat.{_+_, _*_, _≤_, _<_};
 ghost use Rattle.hand.specs.Along.{Begins};
 ghost use Rattle.parts.specs.Beside.{beside};
-ghost use Rattle.items.specs.Walk.{isPlain};
+ghost use Rattle.tiers.specs.Choose.{isPlain};
 ghost use Rattle.items.specs.Came.{Ready, TestCame, RowCame};
 ghost use Rattle.plain.specs.Aim.{Changes};
 use crate::aim::Aim;

@@ -50,6 +50,7 @@ use Rattle.gauge.proofs.Laws.{same-area}
 use Rattle.order_law.proofs.Senses.{own-bound}
 use Rattle.order_law.proofs.Outermost.{read-levels}
 use Rattle.tiers.proofs.Laws.{first-is}
+use Rattle.tiers.proofs.Rows.{call-only, one-there}
 use Rattle.items.specs.declared.Marks.{Marks}
 use Rattle.items.specs.declared.Read.{Read}
 use Rattle.items.specs.Walk.{Walked, walked, walkedOf, walk, walkAll}
@@ -57,7 +58,6 @@ use Rattle.items.specs.Under.{sixAt, nineAt, nineIn, read, insideAt, Scope, sen
 use Rattle.items.specs.Came.{Tells, around, On, RowCame, CallAt, CallCame, OutermostCame, All}
 use Rattle.order_law.proofs.Inside.{any-levels, call-in, body-in, read-apart, behindBy, behind-apart, look-alike}
 use Rattle.plain.specs.Stays.{Refuses, Passes}
-use Rattle.plain.proofs.Rows.{call-only, one-there}
 
 -- ---- a name with a `(` behind it
 

@@ -26,8 +26,8 @@ fn stmt(
     requires { ⌜ Ready (now s) (beside (now t)) count levels first ⌝ }
     ensures { λ r. ⌜ One (now (s .entry)) (beside (now (t .entry)) .names) count u levels lp br first marks (now (t .entry)) (now (t .exit)) r ⌝ }
 {
-    let row = items::rows::statement_row(first.kind);
-    if items::rows::is_plain(row) {
+    let row = tiers::statement_row(first.kind);
+    if tiers::is_plain(row) {
         return plain::plain(s, count, t, u, row, first, marks, lp, br, levels);
     }
     if row == 5 {
@@ -283,7 +283,7 @@ pub fn list(
             return at;
         }
         let v = hand::word_from(s, at.word.next);
-        if items::rows::statement_row(v.kind) == 13 {
+        if tiers::statement_row(v.kind) == 13 {
             return items::made(v, at.marks);
         }
         at = stmt(s, count, t, u, v, at.marks, lp, br, levels);
