@@ -31,7 +31,7 @@ use Rattle.exprs.proofs.operand.Kinds as operand-kinds
 use Rattle.exprs.proofs.+between+expr+name+operand.Lts-operand as operand-lts
 use Rattle.tiers.proofs.operand_row.Reads as operand-row-reads
 use Rattle.tiers.proofs.strength_of.Reads as strength-of-reads
-use Rattle.exprs.proofs.places.told.Reads as told-reads
+use Rattle.frames.proofs.told.Reads as told-reads
 use Rattle.exprs.proofs.single.bit.Reads as bit-reads
 use Rattle.exprs.proofs.single.constant.Reads as constant-reads
 use Rattle.tiers.proofs.strength_at.Reads as strength-at-reads
