@@ -12,8 +12,8 @@ use Rattle.hand.specs.declared.Here.{Here}
 use Rattle.names.specs.Look.{lookIn}
 use Rattle.parts.specs.Beside.{beside}
 use Rattle.frames.specs.declared.Under.{Under}
+use Rattle.frames.specs.Open.{BindsUnder}
 use Rattle.frames.proofs.Following.{meant-deep}
-use Rattle.exprs.specs.Came.{BindsUnder}
 use Rattle.exprs.proofs.Laws.{came-long, plain-long, Going, before-skip, before-deep, before-on, between-start, between-ends, between-on, operand-plain, operand-deep, operand-open, operand-int, plain-name}
 use Rattle.tiers.proofs.Laws.{before-low, between-low, strength-known}
 use Rattle.exprs.proofs.Formals.{own-name, formal-read, formal-past}
