@@ -20,11 +20,12 @@ use Rattle.frames_law.specs.Frames.{toldAt}
 use Rattle.frames.specs.declared.Under.{Under}
 use Rattle.frames.specs.declared.Meant.{Meant}
 use Rattle.frames.specs.declared.Meant.the-variants as meant
+use Rattle.frames.specs.Open.{BindsUnder}
 use Rattle.frames.specs.Meant.{formFor, formIn, spanName, MeantBy}
 use Rattle.uses_law.specs.Uses.{calm, sortOf, held, onward, walk}
 use Rattle.uses_law.proofs.Walked.{walked}
 use Rattle.allow.specs.Steps.{sortCode, sortAt, stateAt, askCode, nextCode, asks}
-use Rattle.allow.specs.Allowed.{Binds, nameBy, bitBy, Fits, Allows}
+use Rattle.allow.specs.Allowed.{nameBy, bitBy, Fits, Allows}
 use Rattle.allow.proofs.Numbers.{sort-told, sort-low, next-small, walk-on, goes-on}
 
 -- ---- what is asked of a name
@@ -39,7 +40,7 @@ bit-form to v (some t) = refl
 
 -- where what a name means is a name or none, and a bit or none, so is all that is asked of it
 fits-by : (s z : List ℕ) (u : Under) (a b : ℕ) (r : Meant) → MeantBy s z u a b r → (x y : Bool) → nameForm (formIn s (toldAt (u .at)) r) ≡ x → bitForm (formIn s (toldAt (u .at)) r) ≡ y
-    → (bound : List (Bound Term)) → Binds s z u bound → (k : ℕ) → asks (λ l. x) (λ l. y) k (part s a b) ≡ asks (nameBy bound) (bitBy bound) k (part s a b)
+    → (bound : List (Bound Term)) → BindsUnder s z u bound → (k : ℕ) → asks (λ l. x) (λ l. y) k (part s a b) ≡ asks (nameBy bound) (bitBy bound) k (part s a b)
 unfolding asks
 fits-by s z u a b r m x y e f bound g zero = refl
 fits-by s z u a b r m x y e f bound g (suc zero) = sym (name-form (toldAt (u .at)) (spanName s a b) (actualOf bound (part s a b)) ∙ ap nameForm (sym (m bound g)) ∙ e)
@@ -98,7 +99,7 @@ held-on t c o r e h q = sym (goes-on c o h) ∙ (rw e at q)
 pub record Going (s z : List ℕ) (u : Under) (first h : Here) (m a b : ℕ) : Type 0 where
   pub near : Near s h
   pub small : m ≤ h .place + 5
-  pub goes : (bound : List (Bound Term)) → Binds s z u bound → (ws : List Word) (r : Bool) → Stands s first ws → walk (nameBy bound) (bitBy bound) calm ws ≡ some r
+  pub goes : (bound : List (Bound Term)) → BindsUnder s z u bound → (ws : List Word) (r : Bool) → Stands s first ws → walk (nameBy bound) (bitBy bound) calm ws ≡ some r
       → (vs : List Word) × Stands s h vs × (walk (nameBy bound) (bitBy bound) (stateAt m (part s a b)) vs ≡ some r)
 
 module _ {s z : List ℕ} {u : Under} where
@@ -108,14 +109,14 @@ module _ {s z : List ℕ} {u : Under} where
 
   module _ {first h : Here} {m a b : ℕ} (g : Going s z u first h m a b) where
     -- what every end of the walk from here on is
-    ends : (r : Bool) → ((bound : List (Bound Term)) → Binds s z u bound → (vs : List Word) (o : Bool) → Stands s h vs → walk (nameBy bound) (bitBy bound) (stateAt m (part s a b)) vs ≡ some o → r ≡ o) → Allows s z u first r
+    ends : (r : Bool) → ((bound : List (Bound Term)) → BindsUnder s z u bound → (vs : List Word) (o : Bool) → Stands s h vs → walk (nameBy bound) (bitBy bound) (stateAt m (part s a b)) vs ≡ some o → r ≡ o) → Allows s z u first r
     ends r f = record { told = λ bound x ws st n k body v rest told e. let (vs, sv, w) = g .goes bound x ws _ st (walked (nameBy bound) (bitBy bound) n k ws body v rest told e) in f bound x vs _ sv w }
 
     pub words-end : 62 < h .kind → Allows s z u first true
     unfolding walk
     words-end over = ends true last
       where
-        last : (bound : List (Bound Term)) → Binds s z u bound → (vs : List Word) (o : Bool) → Stands s h vs → walk (nameBy bound) (bitBy bound) (stateAt m (part s a b)) vs ≡ some o → true ≡ o
+        last : (bound : List (Bound Term)) → BindsUnder s z u bound → (vs : List Word) (o : Bool) → Stands s h vs → walk (nameBy bound) (bitBy bound) (stateAt m (part s a b)) vs ≡ some o → true ≡ o
         last bound x [] o st e = let q : _≡_ {A = ℕ} 0 1 = cc in absurd (omega arith)
         last bound x (w ∷ ws) o (same, along) e = absurd (omega (arith, same .known))
 
@@ -134,19 +135,19 @@ module _ {s z : List ℕ} {u : Under} where
       pub refused : {k : ℕ} {r : Bool} → k ≡ askCode m c → Fits s z u k a b r → r ≡ false → Allows s z u first false
       refused {k} {r} ask fits not = ends false last
         where
-          last : (bound : List (Bound Term)) → Binds s z u bound → (vs : List Word) (o : Bool) → Stands s h vs → walk (nameBy bound) (bitBy bound) (stateAt m (part s a b)) vs ≡ some o → false ≡ o
+          last : (bound : List (Bound Term)) → BindsUnder s z u bound → (vs : List Word) (o : Bool) → Stands s h vs → walk (nameBy bound) (bitBy bound) (stateAt m (part s a b)) vs ≡ some o → false ≡ o
           last bound x vs o st e =
               let (w, ws, sv, q) = over bound vs o st e in
               held-not _ _ o (rw ask at (sym (fits .told bound x) ∙ not)) q
 
       module _ {k : ℕ} {r : Bool} (ask : k ≡ askCode m c) (fits : Fits s z u k a b r) (is-so : r ≡ true) where
-        passes : (bound : List (Bound Term)) → Binds s z u bound → asks (nameBy bound) (bitBy bound) (askCode m c) (part s a b) ≡ true
+        passes : (bound : List (Bound Term)) → BindsUnder s z u bound → asks (nameBy bound) (bitBy bound) (askCode m c) (part s a b) ≡ true
         passes bound x = rw ask at (sym (fits .told bound x) ∙ is-so)
 
         pub all-allowed : c ≡ 7 → Allows s z u first true
         all-allowed seven = ends true last
           where
-            last : (bound : List (Bound Term)) → Binds s z u bound → (vs : List Word) (o : Bool) → Stands s h vs → walk (nameBy bound) (bitBy bound) (stateAt m (part s a b)) vs ≡ some o → true ≡ o
+            last : (bound : List (Bound Term)) → BindsUnder s z u bound → (vs : List Word) (o : Bool) → Stands s h vs → walk (nameBy bound) (bitBy bound) (stateAt m (part s a b)) vs ≡ some o → true ≡ o
             last bound x vs o st e = let (w, ws, sv, q) = over bound vs o st e in held-last _ c _ o (passes bound x) seven q
 
         pub goes-further : {h₁ : Here} → h .kind ≤ 62 → ¬ (c ≡ 7) → Begins s (h .next) h₁ → Going s z u first h₁ (nextCode m c) (h .place) (h .next)
@@ -157,7 +158,7 @@ module _ {s z : List ℕ} {u : Under} where
               goes = λ bound x ws o st e. let (vs, sv, w) = g .goes bound x ws o st e in on-from bound x vs o sv w;
             }
           where
-            on-from : (bound : List (Bound Term)) → Binds s z u bound → (vs : List Word) (o : Bool) → Stands s h vs → walk (nameBy bound) (bitBy bound) (stateAt m (part s a b)) vs ≡ some o
+            on-from : (bound : List (Bound Term)) → BindsUnder s z u bound → (vs : List Word) (o : Bool) → Stands s h vs → walk (nameBy bound) (bitBy bound) (stateAt m (part s a b)) vs ≡ some o
                 → (ws : List Word) × Stands s h₁ ws × (walk (nameBy bound) (bitBy bound) (stateAt (nextCode m c) (part s (h .place) (h .next))) ws ≡ some o)
             on-from bound x vs o st e =
                 let (w, ws, (same, along), q) = over bound vs o st e in

@@ -12,14 +12,9 @@ use Rattle.descent_law.specs.Told.{Told}
 use Rattle.words.specs.Runs.{part}
 use Rattle.hand.specs.declared.Here.{Here}
 use Rattle.hand.specs.Along.{Stands}
-use Rattle.frames_law.specs.Frames.{Framed}
 use Rattle.frames.specs.declared.Under.{Under}
-use Rattle.frames.specs.Layout.{framesOf}
+use Rattle.frames.specs.Open.{BindsUnder}
 use Rattle.allow.specs.Steps.{asks}
-
--- these are the formals under u
-abbrev pub Binds : List ℕ → List ℕ → Under → List (Bound Term) → Type 0
-Binds s z u bound = Framed s (framesOf s z) (u .at) (u .depth) (u .frame) bound
 
 -- P7: what may be assigned or indexed, and what may be changed whole
 abbrev pub nameBy : List (Bound Term) → List ℕ → Bool
@@ -30,9 +25,9 @@ bitBy bound x = isBit (actualOf bound x)
 
 -- the name from a to b is what was asked
 pub record Fits (s z : List ℕ) (u : Under) (asked a b : ℕ) (r : Bool) : Type 0 where
-  pub told : (bound : List (Bound Term)) → Binds s z u bound → r ≡ asks (nameBy bound) (bitBy bound) asked (part s a b)
+  pub told : (bound : List (Bound Term)) → BindsUnder s z u bound → r ≡ asks (nameBy bound) (bitBy bound) asked (part s a b)
 
 -- for all words that stand there, whatever body they come to with `endproc` behind it
 pub record Allows (s z : List ℕ) (u : Under) (h : Here) (r : Bool) : Type 0 where
-  pub told : (bound : List (Bound Term)) → Binds s z u bound → (ws : List Word) → Stands s h ws
+  pub told : (bound : List (Bound Term)) → BindsUnder s z u bound → (ws : List Word) → Stands s h ws
       → (f k : ℕ) (body : Commands) (x : Word) (rest : List Word) → Told f Statements k ws body (x ∷ rest) → x .kind ≡ the "endproc" → r ≡ allowedBy bound body

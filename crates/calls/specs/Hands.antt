@@ -13,10 +13,9 @@ use Rattle.language.specs.Grammar.{Actuals, mostLevels}
 use Rattle.descent_law.specs.Told.{Told}
 use Rattle.hand.specs.Along.{Along, Stands, Near}
 use Rattle.parts.specs.Beside.{treeBytes, beside}
-use Rattle.frames_law.specs.Frames.{toldAt, Framed}
+use Rattle.frames_law.specs.Frames.{toldAt}
 use Rattle.frames.specs.declared.Under.{Under}
-use Rattle.frames.specs.Layout.{framesOf}
-use Rattle.frames.specs.Open.{Sized, Nested, Handed}
+use Rattle.frames.specs.Open.{Sized, Nested, BindsUnder, Handed}
 use Rattle.frames.specs.Put.{actualIn, Over}
 use Rattle.calls.specs.declared.actuals.Handing.{Handing}
 
@@ -26,7 +25,7 @@ handIn z room top i place parts levels = cond (ltb i room) (actualIn z (top + 4 
 
 -- what is known of the formals under u
 pub record Known (s z : List ℕ) (u : Under) (bound : List (Bound Term)) : Type 0 where
-  pub framed : Framed s (framesOf s z) (u .at) (u .depth) (u .frame) bound
+  pub framed : BindsUnder s z u bound
   pub sized : Sized s z (u .depth) (u .frame) bound
   pub nested : Nested s z (u .depth) (u .frame) (u .top)
 

@@ -1,6 +1,6 @@
 -- The laws of names and procedures that are entered.
 -- Assumes nothing.
-use mathlib.Core.Bool.{Bool, true, false, cond, _&&_}
+use mathlib.Core.Bool.{Bool, true, false, cond}
 use mathlib.Core.Path.{_≡_, refl, sym, _∙_, ap, subst}
 use mathlib.Core.List.{List, [], _∷_, _++_}
 use Prim.Native.Nat.{ℕ, suc, _+_, _-_, _≤_, _<_, min}
@@ -32,25 +32,13 @@ use Rattle.names.specs.declared.Marks.{Marks}
 use Rattle.names.specs.Look.{placeAt, putEntry}
 use Rattle.names.specs.Enter.{noted, Kept, put, enter}
 use Rattle.names.specs.Came.{keptOf}
+use Rattle.names.proofs.Same.{same-bytes}
 use Rattle.decls.specs.Held.{rowOf, rowEnd, rowIn, putRow, knownIn, formalsNoted, withSix, Held, rowed, enterVariable, enterProcedure}
 use Rattle.decls.specs.Came.{Is, IsProcedure, Row, bytesOf, EarlierCame, AgainCame, FormalsCame, heldOf, VariableCame, ProcedureCame}
 use Rattle.decls.proofs.Laws.{moreRow, word-end, kind-back}
 
 abbrev Text : Type 0
 Text = List Word
-
--- ---- two definitions of the same bytes
-
-pub same-bytes : (x y : List ℕ) → same x y ≡ sameBytes x y
-unfolding same sameBytes
-same-bytes [] [] = refl
-same-bytes [] (b ∷ y) = refl
-same-bytes (a ∷ x) [] = refl
-same-bytes (a ∷ x) (b ∷ y) = go (eqb a b) (same-bytes x y)
-  where
-    go : (t : Bool) → same x y ≡ sameBytes x y → t && same x y ≡ cond t (sameBytes x y) false
-    go true e = e
-    go false e = refl
 
 -- ---- one row after the other
 

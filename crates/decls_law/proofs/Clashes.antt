@@ -17,9 +17,9 @@ use Rattle.language.specs.Words.{same}
 use Rattle.names.specs.declared.Marks.{Marks}
 use Rattle.names.specs.Look.{lookFrom, lookIn}
 use Rattle.names.specs.Enter.{noted, enter, startMarks}
+use Rattle.names.proofs.Same.{same-bytes}
 use Rattle.decls.specs.Held.{rowIn, knownIn, formalsNoted, withSix, Held, enterVariable, enterProcedure, enterEach, asked}
 use Rattle.decls.specs.Came.{Lies, Lasts, EachLies, heldOf}
-use Rattle.decls.proofs.Entering.{same-bytes}
 use Rattle.decls_law.proofs.Least.{least-append, least-min, least-noted, least-when}
 use Rattle.decls_law.proofs.Looked.{look-frame, look-entered, known-else, six-entered, written}
 use Rattle.decls_law.proofs.Both.{Fits, row-frame, row-last, variable-room, procedure-room, procedure-bytes, rows-stay, names-stay, fits-on}

@@ -21,8 +21,8 @@ use Rattle.words.specs.Runs.{part}
 use Rattle.names.specs.declared.Marks.{Marks}
 use Rattle.names.specs.Look.{widthAt, placeAt, endAt, kindAt, variableBy, entryAt, lookFrom, lookIn, putEntry}
 use Rattle.names.specs.Enter.{cap, tagOf, noted, numberFor, put, enter, enterAll, startMarks}
+use Rattle.names.proofs.Same.{same-bytes}
 use Rattle.decls.specs.Came.{Lies, AllLie}
-use Rattle.decls.proofs.Entering.{same-bytes}
 use Rattle.decls_law.proofs.Least.{least-when}
 
 -- ---- an entry written

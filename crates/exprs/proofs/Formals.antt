@@ -22,13 +22,14 @@ use Rattle.frames_law.specs.Frames.{Frames, toldAt, TermAt, Framed, Stood, form
 use Rattle.frames_law.proofs.Frames.{formal-stands, no-formal-in}
 use Rattle.frames.specs.declared.Under.{Under}
 use Rattle.frames.specs.Layout.{framesOf}
+use Rattle.frames.specs.Open.{BindsUnder}
 use Rattle.frames.specs.Meant.{placed, formalUnder, callerOf}
 use Rattle.frames.proofs.Listed.{placed-some}
 use Rattle.names.specs.Look.{lookIn}
 use Rattle.parts.specs.declared.Notes.{Notes}
 use Rattle.parts.specs.declared.Got.{Got}
 use Rattle.parts.specs.Sum.{sumOf, sum}
-use Rattle.exprs.specs.Came.{BindsUnder, CameUnder, PlainUnder}
+use Rattle.exprs.specs.Came.{CameUnder, PlainUnder}
 use Rattle.exprs.proofs.Laws.{plain-formal}
 
 -- no term begins past the end of the text

@@ -15,9 +15,9 @@ use Rattle.hand.specs.declared.Here.{Here}
 use Rattle.parts.specs.declared.Notes.{Notes}
 use Rattle.parts.specs.declared.Got.{Got}
 use Rattle.hand.specs.Along.{Stands, Near}
-use Rattle.frames_law.specs.Frames.{Framed, toldAt}
+use Rattle.frames_law.specs.Frames.{toldAt}
 use Rattle.frames.specs.declared.Under.{Under}
-use Rattle.frames.specs.Layout.{framesOf}
+use Rattle.frames.specs.Open.{BindsUnder}
 use Rattle.names.specs.Look.{lookIn}
 use Rattle.parts.specs.Sum.{Sum, sumOf, sum}
 use Rattle.parts.specs.Beside.{treeBytes, Beside, beside}
@@ -44,10 +44,6 @@ pub record PlainCame (look : List ℕ → Option Variable) (to : ℕ → ℕ) (B
   pub later : h .place ≤ r .word .place
   pub kept : beside u ≡ beside t
   pub told : (ws : List Word) → Stands s h ws → (f k : ℕ) (v : Term) (rest : List Word) → OperandRow f k ws v rest row → Tells look to Binds s v rest n t u r
-
--- what the formals are bound to under open calls
-abbrev pub BindsUnder : List ℕ → List ℕ → Under → List (Bound Term) → Type 0
-BindsUnder s z under bound = Framed s (framesOf s z) (under .at) (under .depth) (under .frame) bound
 
 -- an expression, and an operand, read under open calls
 abbrev pub CameUnder : List ℕ → List ℕ → ℕ → Under → ℕ → ℕ → Here → Notes → List ℕ → List ℕ → Got → Type 0

@@ -14,7 +14,6 @@ use parts::leaves;
 use parts::marks;
 use tiers::How;
 
-mod places;
 mod single;
 
 // An expression of the operators that bind at `tier` or higher, from the word `first` on, with so many levels left.
@@ -40,7 +39,7 @@ pub fn expr(
                 return leaves::nothing(first, notes);
             }
             let inner = hand::word_from(s, first.next);
-            let p = places::told(u, first.place);
+            let p = frames::told(u, first.place);
             let n = marks::counted(notes, p);
             let g = expr(s, count, t, u, tier, inner, n, levels - 1);
             return leaves::negated(t, notes, p, g);
@@ -77,7 +76,7 @@ fn between(
             return left;
         }
         let v = hand::word_from(s, w.next);
-        let at = places::told(u, p);
+        let at = frames::told(u, p);
         let m = marks::counted(n, at);
         let right = expr(s, count, t, u, tier + 1, v, m, levels);
         left = leaves::joined(t, w.kind, at, left, right);
@@ -116,7 +115,7 @@ fn operand(
         return leaves::behind(hand::word_from(s, c.next), g);
     }
     let third = hand::word_from(s, second.next);
-    let p = places::told(u, first.place);
+    let p = frames::told(u, first.place);
     let n = marks::counted(notes, p);
     let g = expr(s, count, t, u, 0, third, n, levels - 1);
     let c = g.word;
@@ -135,7 +134,7 @@ fn name(s: &[u8], count: u16, t: &mut [u8], u: Under, first: Here, notes: Notes)
     let q = find::formal(s, t, u, first.place, first.next);
     if q == 65535 {
         let v = parts::seen::find(s, t, count, first.place, first.next);
-        return leaves::named(t, notes, places::told(u, first.place), v, after);
+        return leaves::named(t, notes, frames::told(u, first.place), v, after);
     }
     if q as usize > s.len() {
         return leaves::nothing(after, notes);

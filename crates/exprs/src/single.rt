@@ -8,7 +8,6 @@ ghost use Rattle.names.specs.Look.{lookIn};
 ghost use Rattle.parts.specs.Beside.{beside};
 ghost use Rattle.parts.specs.Sum.{sumOf, nameSum};
 ghost use Rattle.exprs.specs.Came.{Named, PlainUnder};
-use crate::places;
 use frames::Meant;
 use frames::Under;
 use frames::follow;
@@ -23,7 +22,7 @@ pub fn constant(s: &[u8], count: u16, t: &mut [u8], u: Under, row: u8, h: Here, 
     ensures { λ r. ⌜ PlainUnder (now (s .entry)) (beside (now (t .entry)) .names) count u row h n (now (t .entry)) (now (t .exit)) r ⌝ }
 {
     let after = hand::word_from(s, h.next);
-    let p = places::told(u, h.place);
+    let p = frames::told(u, h.place);
     if row == 1 {
         return leaves::leaf(t, n, 0, h.value, p, false, h.value as u32, after);
     }
@@ -50,11 +49,11 @@ pub fn bit(s: &[u8], count: u16, t: &mut [u8], u: Under, h: Here, after: Here, n
     let number = hand::word_from(s, after.next);
     let close = hand::word_from(s, number.next);
     let last = hand::word_from(s, close.next);
-    let p = places::told(u, h.place);
+    let p = frames::told(u, h.place);
     match follow::meant(s, t, u, h.place, h.next) {
         Meant::Name { a, b } => {
             let v = parts::seen::find(s, t, count, a, b);
-            return leaves::indexed(t, n, places::told(u, a), v, number.value, last);
+            return leaves::indexed(t, n, frames::told(u, a), v, number.value, last);
         }
         Meant::Bit { a, b, j } => {
             return unknown(s, count, t, n, p, last);

@@ -1,8 +1,8 @@
 -- The laws of a list of formals: one for each word that is met.
 -- Assumes nothing.
-use mathlib.Core.Bool.{Bool, true, false, cond, not, _&&_}
+use mathlib.Core.Bool.{Bool, true, false, cond, not}
 use mathlib.Core.Path.{_≡_, refl, sym, _∙_, ap}
-use mathlib.Core.List.{List, [], _∷_}
+use mathlib.Core.List.{List, []}
 use mathlib.Core.Option.{Option, none, some}
 use Prim.Native.Nat.{ℕ, zero, suc, _+_, _-_, _≤_, _<_}
 use native.Mathlib.Omega.{arith}
@@ -20,6 +20,7 @@ use Rattle.words.specs.declared.Word as scanned
 use Rattle.words.specs.declared.Next.{Next}
 use Rattle.words.specs.declared.Next.the-variants.{Found, Stops, Over}
 use Rattle.words.proofs.Walk.{sound, behind-is}
+use Rattle.names.proofs.Same.{same-bytes}
 use Rattle.hand.proofs.Chosen.{upTo, up-to}
 use Rattle.frames_law.specs.Frames.{noPlace, bytesOf}
 use Rattle.frames.specs.Layout.{isName, isComma, nameNext, commaNext, pastNext, pastWord, formalsFrom, mostFormals, formalsAt, closeFrom, bodyFrom}
@@ -131,18 +132,6 @@ list-start s x p from e = rw e refl
 
 pub placed-some : (p : ℕ) → p < noPlace → placed p ≡ some p
 placed-some p h = rw (lt-ltb p noPlace h) refl
-
--- the two ways to say that bytes are the same
-pub same-bytes : (x y : List ℕ) → same x y ≡ sameBytes x y
-unfolding same sameBytes
-same-bytes [] [] = refl
-same-bytes [] (c ∷ y) = refl
-same-bytes (b ∷ x) [] = refl
-same-bytes (b ∷ x) (c ∷ y) = go (eqb b c) (same-bytes x y)
-  where
-    go : (t : Bool) → same x y ≡ sameBytes x y → t && same x y ≡ cond t (sameBytes x y) false
-    go true e = e
-    go false e = refl
 
 -- ---- the same by what the code has
 

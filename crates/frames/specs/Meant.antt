@@ -10,13 +10,13 @@ use Rattle.meaning.specs.Tree.{Name}
 use Rattle.meaning.specs.Unexpanded.{Term}
 use Rattle.meaning.specs.Expansion.{Bound, actualOf, Form, oneName, oneBit, neither, formOf, moved}
 use Rattle.words.specs.Runs.{part}
-use Rattle.frames_law.specs.Frames.{noPlace, toldAt, Framed, TermAt, formalIn}
+use Rattle.frames_law.specs.Frames.{noPlace, toldAt, TermAt, formalIn}
 use Rattle.frames.specs.declared.Under.{Under}
 use Rattle.frames.specs.declared.Sizes.{Sizes}
 use Rattle.frames.specs.declared.Meant.{Meant}
 use Rattle.frames.specs.declared.Meant.the-variants as meant
 use Rattle.frames.specs.Layout.{halfAt, framesOf}
-use Rattle.frames.specs.Open.{partsOf, levelsOf, Sized}
+use Rattle.frames.specs.Open.{partsOf, levelsOf, Sized, BindsUnder}
 
 -- 65,535 stands for none
 abbrev pub placed : ℕ → Option ℕ
@@ -33,7 +33,7 @@ callerOf z u = record { at = u .at; frame = halfAt z (u .frame); depth = u .dept
 -- the sizes that the frame has of the actual
 abbrev pub SizesOf : List ℕ → List ℕ → Under → List ℕ → Sizes → Type 0
 SizesOf s z u x r =
-    (bound : List (Bound Term)) → Framed s (framesOf s z) (u .at) (u .depth) (u .frame) bound → Sized s z (u .depth) (u .frame) bound
+    (bound : List (Bound Term)) → BindsUnder s z u bound → Sized s z (u .depth) (u .frame) bound
     → (e : Term) → actualOf bound x ≡ some e → (r .parts ≡ partsOf e) × (r .levels ≡ levelsOf e)
 
 -- the name from a to b
@@ -53,7 +53,7 @@ formIn s to meant.Neither = neither
 
 abbrev pub MeantBy : List ℕ → List ℕ → Under → ℕ → ℕ → Meant → Type 0
 MeantBy s z u a b r =
-    (bound : List (Bound Term)) → Framed s (framesOf s z) (u .at) (u .depth) (u .frame) bound
+    (bound : List (Bound Term)) → BindsUnder s z u bound
     → formIn s (toldAt (u .at)) r ≡ formFor (toldAt (u .at)) (spanName s a b) (actualOf bound (part s a b))
 
 -- what the text from a place on is by itself, whatever term it comes to

@@ -56,9 +56,13 @@ unfoldable pub Nested : List ℕ → List ℕ → ℕ → ℕ → ℕ → Type 0
 Nested s z zero frame top = Unit
 Nested s z (suc d) frame top = (frame + frameBytes s (halfAt z (frame + 2)) ≤ top) × Nested s z d (halfAt z frame) frame
 
+-- these are the formals under u
+abbrev pub BindsUnder : List ℕ → List ℕ → Under → List (Bound Term) → Type 0
+BindsUnder s z u bound = Framed s (framesOf s z) (u .at) (u .depth) (u .frame) bound
+
 -- a text is read under u: these procedures can be called, and these are the formals; there is room for every frame that may be asked for, and it is zero
 pub record Open (s z : List ℕ) (ps : List unexpanded.Procedure) (bound : List (Bound Term)) (u : Under) : Type 0 where
-  pub framed : Framed s (framesOf s z) (u .at) (u .depth) (u .frame) bound
+  pub framed : BindsUnder s z u bound
   pub sized : Sized s z (u .depth) (u .frame) bound
   pub nested : Nested s z (u .depth) (u .frame) (u .top)
   pub rows : Rows s z (u .seen) ps

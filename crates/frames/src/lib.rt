@@ -1,4 +1,7 @@
 // The calls that are open while a body is read: their frames, and the procedures that can be called, in the bytes behind the tree.
+ghost use mathlib.Core.Path.{_≡_};
+ghost use Rattle.frames_law.specs.Frames.{toldAt};
+
 pub mod area;
 pub mod find;
 pub mod follow;
@@ -25,4 +28,14 @@ pub enum Meant {
     Name { a: u16, b: u16 },
     Bit { a: u16, b: u16, j: u16 },
     Neither,
+}
+
+// P9: the place told under u, the outermost call's or the word's own.
+pub fn told(u: Under, p: u16) -> u16
+    ensures { λ r. ⌜ r ≡ toldAt (u .at) p ⌝ }
+{
+    if u.at < 65535 {
+        return u.at;
+    }
+    p
 }

@@ -2,10 +2,9 @@
 -- Assumes nothing.
 use mathlib.Core.Bool.{true, false}
 use mathlib.Core.Path.{_≡_, refl, sym, _∙_, ap, ap₂, subst}
-use mathlib.Core.List.{List, [], _∷_, _++_}
+use mathlib.Core.List.{List, [], _∷_}
 use Prim.Native.Nat.{ℕ, _≤_}
 use native.Mathlib.Omega.{arith}
-use lib.ListN.{take, take-append-drop}
 use Rattle.meaning.specs.Tree.{Name}
 use Rattle.meaning.specs.Levels.{mostLevels}
 use Rattle.meaning.specs.Unexpanded.{Term, Command, call, Procedure}
@@ -23,7 +22,8 @@ use Rattle.tiers.proofs.Rows.{call-only, none-there}
 use Rattle.own_law.specs.Own.{nothing, ownAll}
 use Rattle.own_law.proofs.Calls.{expansion}
 use Rattle.own_law.proofs.Around.{within-around, deep-around, counts-around}
-use Rattle.parts.specs.Beside.{treeBytes, Beside, beside}
+use Rattle.parts.specs.Beside.{Beside, beside}
+use Rattle.parts.proofs.Beside.{same-area}
 use Rattle.frames.specs.declared.Under.{Under}
 use Rattle.frames.specs.Layout.{wideAt}
 use Rattle.frames.specs.Meant.{placed}
@@ -35,11 +35,6 @@ use Rattle.measure.specs.Counted.{Tells, MeasuredIs, MeasuredCame}
 use Rattle.gauge.specs.declared.Gauged.{Gauged}
 use Rattle.gauge.specs.Measures.{nameOf, Measures}
 use Rattle.gauge.proofs.Acts.{none-inside, exact-kept, row-kept}
-
--- an area is its tree and what lies behind
-pub same-area : (t t₁ : List ℕ) → take treeBytes t₁ ≡ take treeBytes t → beside t₁ ≡ beside t → t₁ ≡ t
-unfolding beside
-same-area t t₁ tree kept = sym (take-append-drop treeBytes t₁) ∙ ap₂ _++_ tree (ap (λ (d : Beside). d .names) kept) ∙ take-append-drop treeBytes t
 
 module _ {s : List ℕ} {h a : Here} (second : Begins s (h .next) a) where
   -- ---- no `(` behind the name: no call

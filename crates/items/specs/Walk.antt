@@ -3,7 +3,7 @@
 use mathlib.Core.Bool.{Bool, true, cond, not as opposite}
 use mathlib.Core.List.{List}
 use mathlib.Core.Option.{Option, none}
-use Prim.Native.Nat.{ℕ, _+_, _-_, _*_, _/_, _%_, min, max}
+use Prim.Native.Nat.{ℕ, _+_, _*_, _/_, _%_, min, max}
 use lib.Dec.{eqb, ltb, leb}
 use lib.ListN.{length, set}
 use Rattle.meaning.specs.Tree.{Expr, Change, raise, lower, invert, Target, whole, part, Head, Stmt, skip, delay, change, assign, choice, while, loop, exit, break, switch, parallel, Stmts, end, _⨾_, Cases, default, case, Branches, _∥_}
@@ -19,16 +19,6 @@ use Rattle.parts.specs.declared.Notes.{Notes}
 use Rattle.items.specs.declared.Marks.{Marks}
 use Rattle.items.specs.declared.Read.{Read}
 use Rattle.items.specs.declared.Tried.{Tried}
-
--- the row of a statement, by the number of its first word's kind: skip, delay, raise, lower, invert, a name, if, while, loop, exit, switch, break, parallel; 13 for every other word
-unfoldable pub statementRow : ℕ → ℕ
-statementRow k =
-    cond (eqb k 0) 5 (cond (ltb k 35) 13 (cond (ltb k 40) (k - 35) (cond (eqb k 40) 6 (cond (eqb k 44) 7 (cond (eqb k 46) 8 (cond (eqb k 48) 9
-    (cond (eqb k 49) 10 (cond (eqb k 53) 11 (cond (eqb k 54) 12 13)))))))))
-
--- the rows with no statement inside that do not begin with a name
-unfoldable pub isPlain : ℕ → Bool
-isPlain r = cond (ltb r 5) true (cond (eqb r 9) true (eqb r 11))
 
 -- ---- marks
 

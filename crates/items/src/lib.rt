@@ -1,13 +1,11 @@
 // Statements as they are read: the structs, and the small steps of what is noted of them.
 ghost use mathlib.Core.Path.{_≡_};
-ghost use Rattle.frames_law.specs.Frames.{toldAt};
 ghost use Rattle.items.specs.Under.{insideAt};
 use frames::Under;
 use hand::Here;
 use parts::Notes;
 
 pub mod noted;
-pub mod rows;
 pub mod targets;
 
 // The notes, the least place of fault 8 (65,535: none), the statements and the nodes so far, and the activities.
@@ -39,22 +37,12 @@ pub fn made(word: Here, marks: Marks) -> Read
     Read { word, marks }
 }
 
-// P9: the place told under u, the outermost call's or the word's own.
-pub fn told(u: Under, p: u16) -> u16
-    ensures { λ r. ⌜ r ≡ toldAt (u .at) p ⌝ }
-{
-    if u.at < 65535 {
-        return u.at;
-    }
-    p
-}
-
 // Under which the call whose name stands at p is read.
 pub fn inside(u: Under, p: u16) -> Under
     ensures { λ r. ⌜ r ≡ insideAt u p ⌝ }
 {
     Under {
-        at: told(u, p),
+        at: frames::told(u, p),
         frame: u.frame,
         depth: u.depth,
         seen: u.seen,

@@ -25,7 +25,7 @@ use Rattle.hand.specs.Along.{Stands, Near, Begins}
 use Rattle.tiers.specs.Comes.{Comes}
 use Rattle.tiers.specs.Choose.{statementRow, isPlain}
 use Rattle.tiers.proofs.Laws.{first-is}
-use Rattle.tiers.proofs.Rows.{row-told, else-only, index-only, call-only, one-there, none-there}
+use Rattle.tiers.proofs.Rows.{row-told, row-six, row-none, else-only, index-only, call-only, one-there, none-there}
 use Rattle.own_law.specs.Own.{ownTerm}
 use Rattle.own_law.proofs.Early.{each-stay, closed-stays, opened-stays, begun-stays}
 use Rattle.tally.proofs.Steps.{over-on}
@@ -305,42 +305,6 @@ assign-came {s} {z} {u} {k} {n} {h} {a} {a₁} {m} {m₁} {q} {g} {r} near secon
 -- what is said of row i of the first word
 abbrev Rest : List ℕ → List ℕ → Under → ℕ → ℕ → Here → Tally → Counted → ℕ → Type 0
 Rest s z u k n h m r i = (S : Known s z u) (ws : List Word) → Stands s h ws → (f : ℕ) (v : Command) (rest : List Word) → StatementRow f k ws v rest i → Tells s (r .word) rest (Measures 1 n m (r .tally) (overAll (oneOf S v)))
-
--- no row but that of an `if` is left
-row-six : (f k : ℕ) (ws : List Word) (v : Command) (rest : List Word) (i : ℕ) → isPlain i ≡ false → ¬ (i ≡ 5) → ¬ (i ≡ 7) → ¬ (i ≡ 8) → ¬ (i ≡ 10) → ¬ (i ≡ 12) → StatementRow f k ws v rest i → StatementRow f k ws v rest 6
-unfolding isPlain
-row-six f k ws v rest zero p o a b c d x = clash p
-row-six f k ws v rest (suc zero) p o a b c d x = clash p
-row-six f k ws v rest (suc (suc zero)) p o a b c d x = clash p
-row-six f k ws v rest (suc (suc (suc zero))) p o a b c d x = clash p
-row-six f k ws v rest (suc (suc (suc (suc zero)))) p o a b c d x = clash p
-row-six f k ws v rest (suc (suc (suc (suc (suc zero))))) p o a b c d x = absurd (o refl)
-row-six f k ws v rest (suc (suc (suc (suc (suc (suc zero)))))) p o a b c d x = x
-row-six f k ws v rest (suc (suc (suc (suc (suc (suc (suc zero))))))) p o a b c d x = absurd (a refl)
-row-six f k ws v rest (suc (suc (suc (suc (suc (suc (suc (suc zero)))))))) p o a b c d x = absurd (b refl)
-row-six f k ws v rest (suc (suc (suc (suc (suc (suc (suc (suc (suc zero))))))))) p o a b c d x = clash p
-row-six f k ws v rest (suc (suc (suc (suc (suc (suc (suc (suc (suc (suc zero)))))))))) p o a b c d x = absurd (c refl)
-row-six f k ws v rest (suc (suc (suc (suc (suc (suc (suc (suc (suc (suc (suc zero))))))))))) p o a b c d x = clash p
-row-six f k ws v rest (suc (suc (suc (suc (suc (suc (suc (suc (suc (suc (suc (suc zero)))))))))))) p o a b c d x = absurd (d refl)
-row-six f k ws v rest (suc (suc (suc (suc (suc (suc (suc (suc (suc (suc (suc (suc (suc i))))))))))))) p o a b c d x = absurd x
-
--- with no level left there is none with statements inside
-row-none : {A : Type 0} (f k : ℕ) (ws : List Word) (v : Command) (rest : List Word) (i : ℕ) → k ≡ 0 → isPlain i ≡ false → ¬ (i ≡ 5) → StatementRow f k ws v rest i → A
-unfolding isPlain
-row-none f k ws v rest zero z p o x = clash p
-row-none f k ws v rest (suc zero) z p o x = clash p
-row-none f k ws v rest (suc (suc zero)) z p o x = clash p
-row-none f k ws v rest (suc (suc (suc zero))) z p o x = clash p
-row-none f k ws v rest (suc (suc (suc (suc zero)))) z p o x = clash p
-row-none f k ws v rest (suc (suc (suc (suc (suc zero))))) z p o x = absurd (o refl)
-row-none f k ws v rest (suc (suc (suc (suc (suc (suc zero)))))) z p o (x, c, y, j, tail, mid, low, ex, aa, bb, q, lev, te, ta, tb, d) = absurd (omega (arith, lev, z))
-row-none f k ws v rest (suc (suc (suc (suc (suc (suc (suc zero))))))) z p o (x, c, y, w, j, tail, mid, ex, bb, q, lev, te, tb, d) = absurd (omega (arith, lev, z))
-row-none f k ws v rest (suc (suc (suc (suc (suc (suc (suc (suc zero)))))))) z p o (x, c, j, tail, body, q, lev, y, d) = absurd (omega (arith, lev, z))
-row-none f k ws v rest (suc (suc (suc (suc (suc (suc (suc (suc (suc zero))))))))) z p o x = clash p
-row-none f k ws v rest (suc (suc (suc (suc (suc (suc (suc (suc (suc (suc zero)))))))))) z p o (x, c, x₁, x₂, x₃, x₄, j, tail, m₁, m₂, m₃, ex, bb, g, y, q, lev, te, ta, tb, tc, d) = absurd (omega (arith, lev, z))
-row-none f k ws v rest (suc (suc (suc (suc (suc (suc (suc (suc (suc (suc (suc zero))))))))))) z p o x = clash p
-row-none f k ws v rest (suc (suc (suc (suc (suc (suc (suc (suc (suc (suc (suc (suc zero)))))))))))) z p o (x, c, y, j, tail, m₁, m₂, aa, bb, cc₁, q, lev, te, ta, tb, d) = absurd (omega (arith, lev, z))
-row-none f k ws v rest (suc (suc (suc (suc (suc (suc (suc (suc (suc (suc (suc (suc (suc i))))))))))))) z p o x = absurd x
 
 module _ {s z : List ℕ} {u : Under} {k n : ℕ} {h : Here} {m : Tally} {row : ℕ} (at : row ≡ statementRow (h .kind)) where
   one : {t t₁ : List ℕ} {r : Counted} → On s h t t₁ (r .word) → Rest s z u k n h m r row → One s z u k n h m t t₁ r

@@ -1,12 +1,12 @@
--- Nothing beside the tree is written.
+-- What lies beside the tree: nothing there is written, and with the tree it is the area.
 -- Assumes nothing.
 use mathlib.Core.Bool.{Bool, true, false, cond}
-use mathlib.Core.Path.{_≡_, refl, _∙_, ap}
-use mathlib.Core.List.{List}
+use mathlib.Core.Path.{_≡_, refl, sym, _∙_, ap, ap₂}
+use mathlib.Core.List.{List, _++_}
 use Prim.Native.Nat.{ℕ, _+_, _-_, _/_, _%_, _<_}
 use native.Mathlib.Omega.{arith}
 use lib.Dec.{ltb, leb}
-use lib.ListN.{length, set, take, drop, length-set, length-drop}
+use lib.ListN.{length, set, take, drop, take-append-drop, length-set, length-drop}
 use lib.Seq.{drop-set-lt, take-all}
 use borrow.Author.Tests.{ltb-true}
 use Rattle.parts.specs.Sum.{putPart, partAt}
@@ -36,3 +36,11 @@ put-beside t i k c p a b =
 -- all that is left of a list
 pub whole-rest : (n : ℕ) (l : List ℕ) → take (length l - n) (drop n l) ≡ drop n l
 whole-rest n l = take-all (length l - n) (drop n l) (omega (arith, length-drop n l))
+
+-- an area by its tree and what lies behind
+pub whole-area : (t : List ℕ) → take treeBytes t ++ beside t .names ≡ t
+unfolding beside
+whole-area t = take-append-drop treeBytes t
+
+pub same-area : (t t₁ : List ℕ) → take treeBytes t₁ ≡ take treeBytes t → beside t₁ ≡ beside t → t₁ ≡ t
+same-area t t₁ tree kept = sym (whole-area t₁) ∙ ap₂ _++_ tree (ap (λ (d : Beside). d .names) kept) ∙ whole-area t

@@ -38,18 +38,19 @@ use Rattle.frames.specs.declared.Under.{Under}
 use Rattle.frames.specs.declared.Meant.{Meant}
 use Rattle.frames.specs.Meant.{spanName, MeantBy}
 use Rattle.exprs.specs.Came as expression
+use Rattle.tiers.specs.Choose.{isPlain}
 use Rattle.tiers.proofs.Laws.{first-is}
+use Rattle.tiers.proofs.Rows.{index-only, call-only, one-there, none-there}
 use Rattle.items.specs.declared.Marks.{Marks}
 use Rattle.items.specs.declared.Read.{Read}
 use Rattle.items.specs.declared.Tried.{Tried}
-use Rattle.items.specs.Walk.{Walked, isPlain, begun, leaves, delayed, targetMarks, assigned, assignAt, changeAt, changeKind, tested, walked, walkedOf, testOf, testAt, finished}
+use Rattle.items.specs.Walk.{Walked, begun, leaves, delayed, targetMarks, assigned, assignAt, changeAt, changeKind, tested, walked, walkedOf, testOf, testAt, finished}
 use Rattle.items.specs.Under.{Scope, senseOf, testIn, oneIn}
 use Rattle.items.specs.Came.{Finished, On, Tells, TestTells, around, TestCame, RowCame}
 use Rattle.order_law.proofs.Senses.{quiet-text, quiet-term, skip-in, exit-in, break-in, delay-in, change-in, assign-in}
 use Rattle.plain.specs.declared.aim.Aim.{Aim}
 use Rattle.plain.specs.Aim.{nameTo, aimed, nameAim, wholeAim, partAim, Changes}
 use Rattle.plain.proofs.Aims.{name-aim, whole-aim, part-aim}
-use Rattle.plain.proofs.Rows.{index-only, call-only, one-there, none-there}
 
 -- ---- expressions
 

@@ -5,7 +5,7 @@ ghost use lib.ListN.{length};
 ghost use Prim.Native.Nat.{_+_, _*_, _≤_, _<_};
 ghost use Rattle.hand.specs.Along.{Begins};
 ghost use Rattle.parts.specs.Beside.{beside};
-ghost use Rattle.items.specs.Walk.{isPlain};
+ghost use Rattle.tiers.specs.Choose.{isPlain};
 ghost use Rattle.items.specs.Came.{Ready, TestCame, RowCame};
 ghost use Rattle.plain.specs.Aim.{Changes};
 use crate::aim::Aim;
@@ -87,11 +87,11 @@ fn change(
     ensures { λ r. ⌜ ((l b : Bool) → RowCame (now (s .entry)) (beside (now (t .entry)) .names) count u levels l b row first marks (now (t .entry)) (now (t .exit)) r) ⌝ }
 {
     let i = marks.nodes;
-    let p = items::told(u, first.place);
+    let p = frames::told(u, first.place);
     let m = items::noted::begun(marks, p);
     let open = hand::word_from(s, first.next);
     let name = hand::word_from(s, open.next);
-    let q = items::told(u, name.place);
+    let q = frames::told(u, name.place);
     let v = frames::follow::meant(s, t, u, name.place, name.next);
     let after = hand::word_from(s, name.next);
     let second = hand::word_from(s, after.next);
@@ -121,7 +121,7 @@ pub fn assign(
     ensures { λ r. ⌜ ((l b : Bool) → RowCame (now (s .entry)) (beside (now (t .entry)) .names) count u levels l b 5 first marks (now (t .entry)) (now (t .exit)) r) ⌝ }
 {
     let i = marks.nodes;
-    let p = items::told(u, first.place);
+    let p = frames::told(u, first.place);
     let m = items::noted::begun(marks, p);
     let n = m.notes;
     let to = aim::name_of(frames::follow::meant(s, t, u, first.place, first.next));
@@ -152,7 +152,7 @@ pub fn plain(
     ensures { λ r. ⌜ RowCame (now (s .entry)) (beside (now (t .entry)) .names) count u levels lp br row first marks (now (t .entry)) (now (t .exit)) r ⌝ }
 {
     let i = marks.nodes;
-    let p = items::told(u, first.place);
+    let p = frames::told(u, first.place);
     let m = items::noted::begun(marks, p);
     let second = hand::word_from(s, first.next);
     if row == 0 {
@@ -168,7 +168,7 @@ pub fn plain(
     }
     if row == 1 {
         let after = hand::word_from(s, second.next);
-        let q = items::told(u, second.place);
+        let q = frames::told(u, second.place);
         let k = items::noted::delayed(m, second.value, q);
         return written::finish(t, i, 1, p, after, k, q, second.value, 0, 0);
     }

@@ -11,11 +11,10 @@ use Rattle.hand.specs.declared.Here.{Here}
 use Rattle.hand.specs.Along.{Near}
 use Rattle.tiers.specs.Comes.{Comes, ComesBare}
 use Rattle.parts.specs.Beside.{beside}
-use Rattle.frames_law.specs.Frames.{toldAt, Framed}
+use Rattle.frames_law.specs.Frames.{toldAt}
 use Rattle.frames.specs.declared.Under.{Under}
 use Rattle.frames.specs.declared.Sizes as frames
-use Rattle.frames.specs.Layout.{framesOf}
-use Rattle.frames.specs.Open.{partsOf, levelsOf, Sized}
+use Rattle.frames.specs.Open.{partsOf, levelsOf, Sized, BindsUnder}
 use Rattle.sizes.specs.declared.Extent.{Extent}
 
 -- ---- an expression
@@ -27,7 +26,7 @@ pub record Counts (r : Extent) (e : Term) : Type 0 where
 
 -- .. of what it stands for under u
 pub record CountsUnder (s z : List ℕ) (u : Under) (r : Extent) (v : Term) : Type 0 where
-  pub counts : (bound : List (Bound Term)) → Framed s (framesOf s z) (u .at) (u .depth) (u .frame) bound → Sized s z (u .depth) (u .frame) bound → Counts r (replaced (toldAt (u .at)) bound v)
+  pub counts : (bound : List (Bound Term)) → BindsUnder s z u bound → Sized s z (u .depth) (u .frame) bound → Counts r (replaced (toldAt (u .at)) bound v)
 
 -- .. for all words that stand at h, whatever they come to as an expression of this strength; t is the whole area
 abbrev pub Sizes : List ℕ → List ℕ → Under → ℕ → ℕ → Here → Extent → Type 0

@@ -7,7 +7,7 @@ use mathlib.Core.Option.{Option}
 use Prim.Native.Nat.{ℕ, _+_, _-_, _*_, _≤_, _<_}
 use native.Mathlib.Omega.{arith}
 use lib.Dec.{eqb, ltb}
-use lib.ListN.{length, take, length-drop, take-append-drop}
+use lib.ListN.{length, take, length-drop}
 use borrow.Author.Tests.{eq-eqb, le-ltb}
 use Rattle.meaning.specs.Tree.{Name}
 use Rattle.meaning.specs.Numbers.{Variable}
@@ -28,7 +28,7 @@ use Rattle.hand.specs.declared.Here.{Here}
 use Rattle.hand.specs.Along.{Stands, Near, Begins}
 use Rattle.names.specs.Look.{lookIn}
 use Rattle.parts.specs.Beside.{treeBytes, Beside, beside}
-use Rattle.parts.proofs.Beside.{same-size}
+use Rattle.parts.proofs.Beside.{same-size, whole-area, same-area}
 use Rattle.frames_law.specs.Frames.{noPlace, toldAt, Framed}
 use Rattle.frames.specs.declared.Under.{Under}
 use Rattle.frames.specs.Layout.{framesOf}
@@ -46,10 +46,10 @@ use Rattle.own_law.proofs.Early.{read-outermost}
 use Rattle.expand_law.proofs.Places.{faults-at-call}
 use Rattle.gauge.specs.declared.Gauged.{Gauged}
 use Rattle.gauge.specs.Measures.{Sized, Measures}
-use Rattle.gauge.proofs.Laws.{same-area}
 use Rattle.order_law.proofs.Senses.{own-bound}
 use Rattle.order_law.proofs.Outermost.{read-levels}
 use Rattle.tiers.proofs.Laws.{first-is}
+use Rattle.tiers.proofs.Rows.{call-only, one-there}
 use Rattle.items.specs.declared.Marks.{Marks}
 use Rattle.items.specs.declared.Read.{Read}
 use Rattle.items.specs.Walk.{Walked, walked, walkedOf, walk, walkAll}
@@ -57,7 +57,6 @@ use Rattle.items.specs.Under.{sixAt, nineAt, nineIn, read, insideAt, Scope, sen
 use Rattle.items.specs.Came.{Tells, around, On, RowCame, CallAt, CallCame, OutermostCame, All}
 use Rattle.order_law.proofs.Inside.{any-levels, call-in, body-in, read-apart, behindBy, behind-apart, look-alike}
 use Rattle.plain.specs.Stays.{Refuses, Passes}
-use Rattle.plain.proofs.Rows.{call-only, one-there}
 
 -- ---- a name with a `(` behind it
 
@@ -94,11 +93,6 @@ module _ {s : List ℕ} {h a : Here} {k : ℕ} (few : k ≤ mostLevels) (second 
               let i = came .told o outside w ts rest at in
               record { word = i .word; walks = i .walks ∙ ap (λ (y : Command). oneIn (senseOf count o) (around k) y l b (walked m t)) (sym is) };
         }
-
--- an area by its tree and what lies behind
-whole-area : (t : List ℕ) → take treeBytes t ++ beside t .names ≡ t
-unfolding beside
-whole-area t = take-append-drop treeBytes t
 
 -- ---- a call inside another
 

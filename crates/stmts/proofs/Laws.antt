@@ -5,7 +5,6 @@ use mathlib.Core.Path.{_≡_, refl, sym, _∙_, ap, subst}
 use mathlib.Core.List.{List, _∷_}
 use Prim.Native.Nat.{ℕ, zero, suc, _-_, _≤_}
 use native.Mathlib.Omega.{arith}
-use Rattle.ll1.proofs.Sets.{clash}
 use Rattle.meaning.specs.Unexpanded.{Term, Command, choice, while, loop, switch, parallel, Commands, end, Tests, case, Strands, _∥_}
 use Rattle.meaning.specs.Levels.{levelsIn}
 use Rattle.language.specs.Words.{Word}
@@ -17,15 +16,16 @@ use Rattle.hand.specs.declared.Here.{Here}
 use Rattle.hand.specs.Along.{Same, Stands, Near, Begins}
 use Rattle.frames_law.specs.Frames.{toldAt}
 use Rattle.frames.specs.declared.Under.{Under}
+use Rattle.tiers.specs.Choose.{statementRow, isPlain}
 use Rattle.tiers.proofs.Laws.{first-is}
+use Rattle.tiers.proofs.Rows.{row-told, row-six, row-none, else-only, one-there, none-there}
 use Rattle.items.specs.declared.Marks.{Marks}
 use Rattle.items.specs.declared.Read.{Read}
 use Rattle.items.specs.declared.Tried.{Tried}
-use Rattle.items.specs.Walk.{statementRow, isPlain, begun, withActs, together, walked, walkedOf, testOf, Test, finished, Walked}
+use Rattle.items.specs.Walk.{begun, withActs, together, walked, walkedOf, testOf, Test, finished, Walked}
 use Rattle.items.specs.Under.{Scope, senseOf, testIn, oneIn, allIn, testsIn, eachIn}
 use Rattle.items.specs.Came.{Finished, On, Tells, around, TestCame, RowCame, One, All, CaseCame, CasesCame, BranchCame, BranchesCame}
 use Rattle.order_law.proofs.Senses.{quiet-text, quiet-term, loop-in, while-in, choice-in, switch-in, parallel-in, end-in}
-use Rattle.plain.proofs.Rows.{row-told, else-only, one-there, none-there}
 
 -- ---- what is walked
 
@@ -65,44 +65,6 @@ module _ {s z : List ℕ} {under : Under} (count : ℕ) (o : Scope s z count und
   parallel-walk bs m₀ m₂ y r a c =
       rw (c, q) (parallel-in (senseOf count o) (around k) (around (k - 1)) (one-more k low few) l b (walked m t) (w .place) bs y (quiet-text count o (suc (around k)) (omega (arith, low)))
       (a ∙ ap (λ (n : Marks). eachIn (senseOf count o) (around (k - 1)) bs l (walked n t)) (r ∙ ap (λ (n : Marks). withActs n 0) begins)))
-
--- ---- rows
-
--- no row but that of an `if` is left
-row-six : (f k : ℕ) (ws : List Word) (v : Command) (rest : List Word) (i : ℕ) → isPlain i ≡ false → ¬ (i ≡ 5) → ¬ (i ≡ 7) → ¬ (i ≡ 8) → ¬ (i ≡ 10) → ¬ (i ≡ 12) → StatementRow f k ws v rest i → StatementRow f k ws v rest 6
-unfolding isPlain
-row-six f k ws v rest zero p n₅ a b c d x = clash p
-row-six f k ws v rest (suc zero) p n₅ a b c d x = clash p
-row-six f k ws v rest (suc (suc zero)) p n₅ a b c d x = clash p
-row-six f k ws v rest (suc (suc (suc zero))) p n₅ a b c d x = clash p
-row-six f k ws v rest (suc (suc (suc (suc zero)))) p n₅ a b c d x = clash p
-row-six f k ws v rest (suc (suc (suc (suc (suc zero))))) p n₅ a b c d x = absurd (n₅ refl)
-row-six f k ws v rest (suc (suc (suc (suc (suc (suc zero)))))) p n₅ a b c d x = x
-row-six f k ws v rest (suc (suc (suc (suc (suc (suc (suc zero))))))) p n₅ a b c d x = absurd (a refl)
-row-six f k ws v rest (suc (suc (suc (suc (suc (suc (suc (suc zero)))))))) p n₅ a b c d x = absurd (b refl)
-row-six f k ws v rest (suc (suc (suc (suc (suc (suc (suc (suc (suc zero))))))))) p n₅ a b c d x = clash p
-row-six f k ws v rest (suc (suc (suc (suc (suc (suc (suc (suc (suc (suc zero)))))))))) p n₅ a b c d x = absurd (c refl)
-row-six f k ws v rest (suc (suc (suc (suc (suc (suc (suc (suc (suc (suc (suc zero))))))))))) p n₅ a b c d x = clash p
-row-six f k ws v rest (suc (suc (suc (suc (suc (suc (suc (suc (suc (suc (suc (suc zero)))))))))))) p n₅ a b c d x = absurd (d refl)
-row-six f k ws v rest (suc (suc (suc (suc (suc (suc (suc (suc (suc (suc (suc (suc (suc i))))))))))))) p n₅ a b c d x = absurd x
-
--- with no level left there is none
-row-none : {A : Type 0} (f k : ℕ) (ws : List Word) (v : Command) (rest : List Word) (i : ℕ) → k ≡ 0 → isPlain i ≡ false → ¬ (i ≡ 5) → StatementRow f k ws v rest i → A
-unfolding isPlain
-row-none f k ws v rest zero z p n₅ x = clash p
-row-none f k ws v rest (suc zero) z p n₅ x = clash p
-row-none f k ws v rest (suc (suc zero)) z p n₅ x = clash p
-row-none f k ws v rest (suc (suc (suc zero))) z p n₅ x = clash p
-row-none f k ws v rest (suc (suc (suc (suc zero)))) z p n₅ x = clash p
-row-none f k ws v rest (suc (suc (suc (suc (suc zero))))) z p n₅ x = absurd (n₅ refl)
-row-none f k ws v rest (suc (suc (suc (suc (suc (suc zero)))))) z p n₅ (x, c, y, j, tail, mid, low, ex, aa, bb, q, lev, te, ta, tb, d) = absurd (omega (arith, lev, z))
-row-none f k ws v rest (suc (suc (suc (suc (suc (suc (suc zero))))))) z p n₅ (x, c, y, w, j, tail, mid, ex, bb, q, lev, te, tb, d) = absurd (omega (arith, lev, z))
-row-none f k ws v rest (suc (suc (suc (suc (suc (suc (suc (suc zero)))))))) z p n₅ (x, c, j, tail, body, q, lev, y, d) = absurd (omega (arith, lev, z))
-row-none f k ws v rest (suc (suc (suc (suc (suc (suc (suc (suc (suc zero))))))))) z p n₅ x = clash p
-row-none f k ws v rest (suc (suc (suc (suc (suc (suc (suc (suc (suc (suc zero)))))))))) z p n₅ (x, c, x₁, x₂, x₃, x₄, j, tail, m₁, m₂, m₃, ex, bb, g, y, q, lev, te, ta, tb, tc, d) = absurd (omega (arith, lev, z))
-row-none f k ws v rest (suc (suc (suc (suc (suc (suc (suc (suc (suc (suc (suc zero))))))))))) z p n₅ x = clash p
-row-none f k ws v rest (suc (suc (suc (suc (suc (suc (suc (suc (suc (suc (suc (suc zero)))))))))))) z p n₅ (x, c, y, j, tail, m₁, m₂, aa, bb, cc₁, q, lev, te, ta, tb, d) = absurd (omega (arith, lev, z))
-row-none f k ws v rest (suc (suc (suc (suc (suc (suc (suc (suc (suc (suc (suc (suc (suc i))))))))))))) z p n₅ x = absurd x
 
 -- ---- a statement
 

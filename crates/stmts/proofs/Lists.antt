@@ -17,15 +17,16 @@ use Rattle.hand.specs.declared.Here.{Here}
 use Rattle.hand.specs.Along.{Stands, Near, Begins}
 use Rattle.frames_law.specs.Frames.{toldAt}
 use Rattle.frames.specs.declared.Under.{Under}
+use Rattle.tiers.specs.Choose.{statementRow}
 use Rattle.tiers.proofs.Laws.{first-is}
+use Rattle.tiers.proofs.Rows.{after-only, cases-only, branches-only, one-there, none-there, next-one, next-none}
 use Rattle.items.specs.declared.Marks.{Marks}
 use Rattle.items.specs.declared.Read.{Read}
 use Rattle.items.specs.declared.Tried.{Tried}
-use Rattle.items.specs.Walk.{statementRow, cased, withActs, walked, walkedOf, testOf, Test, finished, branched, Walked}
+use Rattle.items.specs.Walk.{cased, withActs, walked, walkedOf, testOf, Test, finished, branched, Walked}
 use Rattle.items.specs.Under.{Scope, senseOf, testIn, oneIn, allIn, testsIn, eachIn}
 use Rattle.items.specs.Came.{Finished, Branched, On, around, TestCame, One, All, CaseCame, CasesCame, BranchCame, BranchesCame}
 use Rattle.order_law.proofs.Senses.{quiet-term, end-in, more-in, default-in, case-in, none-in, strand-in}
-use Rattle.plain.proofs.Rows.{after-only, cases-only, branches-only, one-there, none-there, next-one, next-none}
 use Rattle.stmts.proofs.Laws.{and-on, on-word, on-here, on-fin}
 
 -- ---- what is walked

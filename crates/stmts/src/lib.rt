@@ -26,8 +26,8 @@ fn stmt(
     requires { ⌜ Ready (now s) (beside (now t)) count levels first ⌝ }
     ensures { λ r. ⌜ One (now (s .entry)) (beside (now (t .entry)) .names) count u levels lp br first marks (now (t .entry)) (now (t .exit)) r ⌝ }
 {
-    let row = items::rows::statement_row(first.kind);
-    if items::rows::is_plain(row) {
+    let row = tiers::statement_row(first.kind);
+    if tiers::is_plain(row) {
         return plain::plain(s, count, t, u, row, first, marks, lp, br, levels);
     }
     if row == 5 {
@@ -141,7 +141,7 @@ fn loop_always(
     requires { ⌜ (0 < levels) × Ready (now s) (beside (now t)) count levels first ⌝ }
     ensures { λ r. ⌜ ((l : Bool) → RowCame (now (s .entry)) (beside (now (t .entry)) .names) count u levels l br 8 first marks (now (t .entry)) (now (t .exit)) r) ⌝ }
 {
-    let p = items::told(u, first.place);
+    let p = frames::told(u, first.place);
     let m = items::noted::begun(marks, p);
     let second = hand::word_from(s, first.next);
     let a = list(s, count, t, u, second, m, true, br, levels - 1);
@@ -164,7 +164,7 @@ fn while_loop(
     ensures { λ r. ⌜ ((l : Bool) → RowCame (now (s .entry)) (beside (now (t .entry)) .names) count u levels l br 7 first marks (now (t .entry)) (now (t .exit)) r) ⌝ }
 {
     let i = marks.nodes;
-    let p = items::told(u, first.place);
+    let p = frames::told(u, first.place);
     let m = items::noted::begun(marks, p);
     let second = hand::word_from(s, first.next);
     let below = levels - 1;
@@ -191,7 +191,7 @@ fn choice(
     ensures { λ r. ⌜ RowCame (now (s .entry)) (beside (now (t .entry)) .names) count u levels lp br 6 first marks (now (t .entry)) (now (t .exit)) r ⌝ }
 {
     let i = marks.nodes;
-    let p = items::told(u, first.place);
+    let p = frames::told(u, first.place);
     let m = items::noted::begun(marks, p);
     let second = hand::word_from(s, first.next);
     let below = levels - 1;
@@ -221,7 +221,7 @@ fn switch(
     requires { ⌜ (0 < levels) × Ready (now s) (beside (now t)) count levels first ⌝ }
     ensures { λ r. ⌜ ((b : Bool) → RowCame (now (s .entry)) (beside (now (t .entry)) .names) count u levels lp b 10 first marks (now (t .entry)) (now (t .exit)) r) ⌝ }
 {
-    let p = items::told(u, first.place);
+    let p = frames::told(u, first.place);
     let m = items::noted::begun(marks, p);
     let second = hand::word_from(s, first.next);
     let below = levels - 1;
@@ -248,7 +248,7 @@ fn parallel(
     requires { ⌜ (0 < levels) × Ready (now s) (beside (now t)) count levels first ⌝ }
     ensures { λ r. ⌜ ((b : Bool) → RowCame (now (s .entry)) (beside (now (t .entry)) .names) count u levels lp b 12 first marks (now (t .entry)) (now (t .exit)) r) ⌝ }
 {
-    let p = items::told(u, first.place);
+    let p = frames::told(u, first.place);
     let m = items::noted::begun(marks, p);
     let second = hand::word_from(s, first.next);
     let below = levels - 1;
@@ -283,7 +283,7 @@ pub fn list(
             return at;
         }
         let v = hand::word_from(s, at.word.next);
-        if items::rows::statement_row(v.kind) == 13 {
+        if tiers::statement_row(v.kind) == 13 {
             return items::made(v, at.marks);
         }
         at = stmt(s, count, t, u, v, at.marks, lp, br, levels);
@@ -305,7 +305,7 @@ fn one_case(
     ensures { λ r. ⌜ CaseCame (now (s .entry)) (beside (now (t .entry)) .names) count u levels lp true first marks (now (t .entry)) (now (t .exit)) r ⌝ }
 {
     let i = marks.nodes;
-    let p = items::told(u, first.place);
+    let p = frames::told(u, first.place);
     let m = items::noted::cased(marks);
     let second = hand::word_from(s, first.next);
     let g = plain::test(s, count, t, u, second, m, p, levels);

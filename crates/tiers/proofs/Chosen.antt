@@ -1,6 +1,6 @@
 -- Which row of an expression is called for: by computation over the kinds of words.
 -- Assumes nothing.
-use mathlib.Core.Bool.{Bool, true, cond, not as opposite}
+use mathlib.Core.Bool.{Bool, true, not as opposite}
 use mathlib.Core.Path.{_≡_, refl, sym, _∙_, ap}
 use mathlib.Core.List.{List, [], _∷_}
 use mathlib.Core.Option.{Option, none, some}
@@ -13,7 +13,7 @@ use borrow.Author.Tests.{eqb-true, eqb-false, not-true}
 use Rattle.ll1.proofs.Tests.{has, beginRow, pick}
 use Rattle.ll1.proofs.Sets.{clash}
 use Rattle.language.specs.Words.{Kind, the, signs, reserved, bytes, same}
-use Rattle.language.specs.Grammar.{Tier, Further, Index, Strength, between, before, binding, csml}
+use Rattle.language.specs.Grammar.{Tier, Further, Strength, between, before, binding, csml}
 use Rattle.language.proofs.EveryPart.{past}
 use Rattle.language.proofs.Claims.{claims, first, empty, follow, sameKind, same-true, same-self}
 use Rattle.words.specs.Kinds.{numbered, spellings, kindCount}
@@ -35,10 +35,6 @@ operand-rows (suc (suc (suc zero))) h = absurd (omega arith)
 operand-rows (suc (suc (suc (suc zero)))) h = absurd (omega arith)
 operand-rows (suc (suc (suc (suc (suc zero))))) h = absurd (omega arith)
 operand-rows (suc (suc (suc (suc (suc (suc n)))))) h = past-operands n
-
-pub index-rows : Decides Index (λ k. cond (eqb k 16) 1 0)
-unfolding has beginRow pick csml binding claims first empty follow agrees upTo numbered spellings signs reserved
-index-rows = refl
 
 -- ---- operators between operands
 

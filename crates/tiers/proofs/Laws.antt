@@ -1,6 +1,6 @@
 -- The laws of a reader of expressions: one for each way on, whatever is claimed of the terms.
 -- Assumes nothing.
-use mathlib.Core.Bool.{Bool, true, false, cond}
+use mathlib.Core.Bool.{true, false}
 use mathlib.Core.Path.{_≡_, refl, sym, _∙_, ap, subst}
 use mathlib.Core.List.{List, [], _∷_, cons≢nil}
 use mathlib.Core.Option.{Option, none, some}
@@ -9,8 +9,6 @@ use Prim.Native.String.{String}
 use native.Mathlib.Numerals.{add-one}
 use native.Mathlib.Omega.{arith}
 use native.Mathlib.Decide.{decLt}
-use borrow.Author.Tests.{ne-eqb}
-use lib.Dec.{eqb}
 use lib.ListN.{getElem?}
 use Rattle.meaning.specs.Unexpanded.{Term, literal, truth, variable, bit, not, int, parens}
 use Rattle.language.specs.Words.{Word, the}
@@ -29,7 +27,8 @@ use Rattle.tiers.specs.declared.How.the-variants.{Operand, Between, Befo
 use Rattle.tiers.specs.Choose.{IsHow, operandRow, strengthOf}
 use Rattle.tiers.specs.Comes.{Tells, Comes, ComesBare}
 use Rattle.tiers.proofs.Small.{no-strength}
-use Rattle.tiers.proofs.Chosen.{operand-rows, index-rows, further-ends, further-on, before-here, before-not, strength-past}
+use Rattle.tiers.proofs.Chosen.{operand-rows, further-ends, further-on, before-here, before-not, strength-past}
+use Rattle.tiers.proofs.Rows.{index-only, one-there, none-there}
 
 same-number : (a b : ℕ) → a < kindCount → b < kindCount → numbered a ≡ numbered b → a ≡ b
 same-number a b h g e = sym (number-back a h) ∙ ap numberOf e ∙ number-back b g
@@ -330,7 +329,7 @@ module _ {s : List ℕ} {h w a : Here} {P : Term → Type 0} {row : ℕ} (near :
       ends x tail j v rest zero same along d p (e, f) =
           record { word = rw is (b .stands rest (rw f at along)); holds = subst P (ap variable (name-here same) ∙ sym (d ∙ ap (nameOrBit (nameAt x)) e)) holds }
       ends x tail j v rest (suc i) same along d p row =
-          absurd (omega (arith, rw (ne-eqb (a .kind) 16 not-index) at (called-row s Index (λ k. cond (eqb k 16) 1 0) index-rows a tail (suc i) (b .stands tail along) p)))
+          absurd (omega (arith, none-there Index 16 index-only s a tail (suc i) (b .stands tail along) p not-index))
 
       go : (ws : List Word) → Stands s h ws → (v : Term) (rest : List Word) (f k : ℕ) → OperandRow f k ws v rest 0 → Tells s w P v rest
       go ws st v rest f k (x, tail, j, q, y, d) =
@@ -351,7 +350,7 @@ module _ {s : List ℕ} {h w a : Here} {P : Term → Type 0} {row : ℕ} (near :
 
       ends : (x : Word) (tail : List Word) (j : Option ℕ) (v : Term) (rest : List Word) (i : ℕ) → Same s h x → Along s (h .next) tail → v ≡ nameOrBit (nameAt x) j → Called Index tail i → IndexRow tail j rest i → Tells s w P v rest
       ends x tail j v rest zero same along d p row =
-          absurd (omega (arith, rw index at (called-row s Index (λ k. cond (eqb k 16) 1 0) index-rows a tail 0 (b .stands tail along) p)))
+          absurd (omega (arith, one-there Index 16 index-only s a tail 0 (b .stands tail along) p index))
       ends x tail j v rest (suc i) same along d p (y₁, y₂, y₃, e, c, f) =
           let (s₁, l₁) = first-is (b .stands tail along) e in
           let (s₂, l₂) = b₁ .stands (y₂ ∷ y₃ ∷ rest) l₁ in

@@ -67,9 +67,9 @@ use Rattle.items.proofs.noted.cased.Reads as cased-reads
 use Rattle.items.proofs.noted.passing.Reads as noted-passing-reads
 use Rattle.items.proofs.noted.together.Reads as together-reads
 use Rattle.items.proofs.noted.with_acts.Reads as with-acts-reads
-use Rattle.items.proofs.rows.is_plain.Reads as is-plain-reads
-use Rattle.items.proofs.rows.statement_row.Reads as statement-row-reads
-use Rattle.items.proofs.told.Reads as told-reads
+use Rattle.tiers.proofs.is_plain.Reads as is-plain-reads
+use Rattle.tiers.proofs.statement_row.Reads as statement-row-reads
+use Rattle.frames.proofs.told.Reads as told-reads
 use Rattle.gauge.proofs.measure.Reads as measure-reads
 use Rattle.plain.proofs.assign.Reads as assign-reads
 use Rattle.plain.proofs.plain.Reads as plain-reads

@@ -1,6 +1,6 @@
 -- `frames::list::same_at` meets its contract.
 -- Assumes nothing.
-use Rattle.frames.proofs.Listed.{same-bytes}
+use Rattle.names.proofs.Same.{same-bytes}
 use Rattle.words.specs.Runs.{part}
 use Rattle.meaning.specs.Declared.{sameBytes}
 use denote.Ref.{now}

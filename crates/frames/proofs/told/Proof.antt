@@ -1,10 +1,10 @@
--- `exprs::places::told` meets its contract.
+-- `frames::told` meets its contract.
 -- Assumes nothing.
 use Rattle.frames_law.specs.Frames.{toldAt}
 use borrow.Author.Tests.{lt-ltb, le-ltb}
 use mathlib.Core.Path.{refl}
-use Rattle.exprs.proofs.places.told.Statement.{statement}
-use Rattle.exprs.proofs.places.told.Tie as tie
+use Rattle.frames.proofs.told.Statement.{statement}
+use Rattle.frames.proofs.told.Tie as tie
 
 returns : tie.Need-returns
 unfolding toldAt
