@@ -40,7 +40,7 @@
  *
  *     gcc -std=c99 -Iinclude main.c table.c target/staticlib/libstepper.a
  *
- * Sizes. libstepper.a has 2.1 KB of code and 1 KB of constants, and no data;
+ * Sizes. libstepper.a has 2.3 KB of code and 1 KB of constants, and no data;
  * open takes less than 1.2 KB of stack, step and outputs less than 64 bytes.
  * libcompiler.a has 67 KB of code and constants, and no data; compile recurses as
  * deep as a source nests, 32 levels at most, and as deep as its calls go; it takes
@@ -62,8 +62,13 @@ extern "C" {
 /* Answers of step and outputs from here on are refusals. */
 #define WINDNADEL_REFUSED 65536u
 
-/* Refusals of the three: the table file is not sound; the state or the input is not in its table. */
-#define WINDNADEL_NOT_SOUND 13u
+/* What is broken in a table file: its length, a block's number or count of blocks, a block's check, or all else. */
+#define WINDNADEL_BAD_LENGTH 21u
+#define WINDNADEL_BAD_NUMBER 22u
+#define WINDNADEL_BAD_CHECK 23u
+#define WINDNADEL_BAD_CONTENT 24u
+
+/* Refusal of step and outputs: the state or the input is not in the table. */
 #define WINDNADEL_NOT_IN_TABLE 14u
 
 /* Bytes in a block, and in the largest file. */
@@ -158,29 +163,31 @@ uint64_t windnadel_kiss_read(const uint8_t *text, size_t text_len, uint8_t *file
 
 /*
  * Reads the whole file and answers the outputs of state 0 (0 to 65,535) where
- * it is sound. Otherwise it answers refusal * 2^32 + place, and the refusal is
- * always 13. The first of these that holds decides:
- * - len is 0, not a multiple of 512, or above 67 * 512: place 0;
- * - a block has a wrong number, a wrong count of blocks or a wrong check: the
- *   place is the position of the first such block, counted from 0;
- * - more than 6 inputs, more than 16 outputs, or a count of states that is not
- *   1 to 256; more or fewer blocks than these sizes call for; in some state an
- *   output bit that the file has no output for; a byte that is not zero after
+ * it is sound. Otherwise it answers refusal * 2^32 + place. The first of these
+ * that holds decides:
+ * - 21: len is 0, not a multiple of 512, or above 67 * 512: place 0;
+ * - a block has a wrong number or a wrong count of blocks (22), or else a wrong
+ *   check (23): the first such block decides, and the place is its position,
+ *   counted from 0;
+ * - 24: more than 6 inputs, more than 16 outputs, or a count of states that is
+ *   not 1 to 256; more or fewer blocks than these sizes call for; in some state
+ *   an output bit that the file has no output for; a byte that is not zero after
  *   the table's end; a next state that is not in the table: place 0.
  * All else is accepted. Outputs are below 65,536 and a refusal is at least
- * 13 * 2^32, so the two can't be confused; windnadel_open_refused tells them apart.
+ * 21 * 2^32, so the two can't be confused; windnadel_open_refused tells them apart.
  */
 uint64_t windnadel_open(const uint8_t *file, size_t len);
 
 /*
  * Answers the next state (0 to 255) for a state and the inputs of one clock, or
  * 65,536 + refusal. The first of these that holds decides:
- * - 65,549 (refusal 13): len is below 512; more than 6 inputs, more than 16
- *   outputs, or a count of states that is not 1 to 256; or len is not exactly
- *   the length that these sizes call for;
+ * - 65,557 (refusal 21): len is 0, not a multiple of 512, or above 67 * 512;
+ * - 65,560 (refusal 24): more than 6 inputs, more than 16 outputs, or a count of
+ *   states that is not 1 to 256; or len is not exactly the length that these
+ *   sizes call for;
  * - 65,550 (refusal 14): the file has no such state, or no such input: the input
  *   is 2^inputs or more;
- * - 65,549 (refusal 13): the next state found is not in the table, or its
+ * - 65,560 (refusal 24): the next state found is not in the table, or its
  *   outputs have a bit that the file has no output for.
  * The blocks' checks are not computed again: windnadel_open did that. From a
  * file that it accepted, a state in the table and an input below 2^inputs are
@@ -191,9 +198,10 @@ uint32_t windnadel_step(const uint8_t *file, size_t len, uint32_t state, uint32_
 /*
  * Answers the outputs of a state (0 to 65,535), or 65,536 + refusal. The first
  * of these that holds decides:
- * - 65,549 (refusal 13): the length and the sizes, as for windnadel_step;
+ * - 65,557 and 65,560 (refusals 21 and 24): the length and then the sizes, as for
+ *   windnadel_step;
  * - 65,550 (refusal 14): the file has no such state;
- * - 65,549 (refusal 13): the outputs have a bit that the file has no output for.
+ * - 65,560 (refusal 24): the outputs have a bit that the file has no output for.
  */
 uint32_t windnadel_outputs(const uint8_t *file, size_t len, uint32_t state);
 

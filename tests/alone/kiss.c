@@ -26,7 +26,7 @@ int tried(void)
             return 5;
     if (file[512] != 0x5A)
         return 6;
-    if (windnadel_kiss_write(blink_file, 511, text, 0) != (uint64_t)WINDNADEL_NOT_SOUND << 32)
+    if (windnadel_kiss_write(blink_file, 511, text, 0) != (uint64_t)WINDNADEL_BAD_LENGTH << 32)
         return 7;
     if (windnadel_kiss_write(blink_file, sizeof blink_file, text, LENGTH - 1) != (uint64_t)WINDNADEL_SHORT_BUFFER << 32)
         return 8;

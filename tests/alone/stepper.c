@@ -13,5 +13,5 @@ int tried(void)
         return 3;
     if (windnadel_step(blink_file, sizeof blink_file, 1, 2) != WINDNADEL_REFUSED + WINDNADEL_NOT_IN_TABLE)
         return 4;
-    return windnadel_open_refusal(windnadel_open(blink_file, 511)) != WINDNADEL_NOT_SOUND ? 5 : 0;
+    return windnadel_open_refusal(windnadel_open(blink_file, 511)) != WINDNADEL_BAD_LENGTH ? 5 : 0;
 }

@@ -1,4 +1,4 @@
-/* Bad blocks: the first one's position is the place, wherever it stands and whatever follows. */
+/* Bad blocks: the first one decides what is told, and its position is the place, wherever it stands and whatever follows. */
 #include <string.h>
 
 #include "cases.h"
@@ -17,23 +17,26 @@ static void start(uint32_t inputs, uint32_t states)
     memcpy(file, sound, length);
 }
 
-/* Open names the place; a step looks at no number, total or check. */
-static void refused_at(size_t place)
+/* Open names what is broken and where; a step looks at no number, total or check. */
+static void refused_at(int number, size_t place)
 {
     lend(file, length, 0);
-    expect(agree_open(), UNSOUND(place));
+    expect(agree_open(), BROKEN(number, place));
     for (uint32_t state = 0; state < t.states; state++)
         expect(agree_step(state, 0), table_step(&t, state, 0));
     unchanged(file);
     memcpy(file, sound, length);
 }
 
+/* The number and the total come before the check of the same block, whether that is made right or not. */
 static void wrong_word(size_t block, size_t offset, uint32_t change)
 {
     size_t place = block * BLOCK + offset;
     put_word(file, place, file[place] + 256u * file[place + 1] + change);
+    refused_at(BAD_NUMBER, block);
+    put_word(file, place, file[place] + 256u * file[place + 1] + change);
     seal(file, block);
-    refused_at(block);
+    refused_at(BAD_NUMBER, block);
 }
 
 static void wrong_numbers(void)
@@ -54,10 +57,10 @@ static void wrong_checks(void)
     for (size_t block = 0; block < length / BLOCK; block++) {
         for (size_t offset = CHECKED; offset < BLOCK; offset++) {
             file[block * BLOCK + offset] ^= (uint8_t)(1u << random_below(8));
-            refused_at(block);
+            refused_at(BAD_CHECK, block);
         }
         memset(file + block * BLOCK + CHECKED, 0, 4);
-        refused_at(block);
+        refused_at(BAD_CHECK, block);
     }
 }
 
@@ -69,15 +72,15 @@ static void several_wrong(void)
         file[first * BLOCK + CHECKED + first % 4] ^= 1;
         for (size_t later = first + 1; later < length / BLOCK; later++)
             file[later * BLOCK + random_below(4)] ^= 0x40;
-        refused_at(first);
+        refused_at(BAD_CHECK, first);
     }
     for (size_t block = 1; block < length / BLOCK; block++) {
         file[block * BLOCK + 3] ^= 1;
         file[4] = 7;
         seal(file, 0);
         lend(file, length, 0);
-        expect(agree_open(), UNSOUND(block));
-        expect(agree_step(0, 0), 65549);
+        expect(agree_open(), BROKEN(BAD_NUMBER, block));
+        expect(agree_step(0, 0), REFUSED(BAD_CONTENT));
         memcpy(file, sound, length);
     }
 }
@@ -90,11 +93,11 @@ static void moved_blocks(void)
         memcpy(file + block * BLOCK, sound + (block + 1) * BLOCK, BLOCK);
         memcpy(file + (block + 1) * BLOCK, sound + block * BLOCK, BLOCK);
         lend(file, length, 0);
-        expect(agree_open(), UNSOUND(block));
+        expect(agree_open(), BROKEN(BAD_NUMBER, block));
         agree_edges();
         memcpy(file + block * BLOCK, sound + block * BLOCK, BLOCK);
         lend(file, length, 0);
-        expect(agree_open(), UNSOUND(block + 1));
+        expect(agree_open(), BROKEN(BAD_NUMBER, block + 1));
         agree_edges();
         memcpy(file, sound, length);
     }

@@ -4,8 +4,9 @@
 
 #include <stdint.h>
 
-/* The refusal 13 as open answers it, with its place. */
-#define UNSOUND(place) (((uint64_t)13 << 32) + (place))
+/* What is broken as open answers it, with its place, and as step and outputs do. */
+#define BROKEN(number, place) (((uint64_t)(number) << 32) + (place))
+#define REFUSED(number) (65536u + (uint32_t)(number))
 
 void known_answers(void);
 void sound_files(void);

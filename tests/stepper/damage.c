@@ -14,7 +14,7 @@ static void with_value(size_t place, uint8_t value)
     memcpy(file, sound, length);
     file[place] = value;
     lend(file, length, 0);
-    expect(agree_open(), UNSOUND(place / BLOCK));
+    expect(agree_open(), BROKEN(place % BLOCK < 4 ? BAD_NUMBER : BAD_CHECK, place / BLOCK));
     agree_all();
     unchanged(file);
     seal(file, place / BLOCK);

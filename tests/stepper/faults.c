@@ -8,14 +8,16 @@
 static struct table t;
 static uint8_t file[FILE_ROOM];
 
+/* Whole blocks, each right in itself: the content is bad, unless there are too many of them. */
 static void refused_throughout(size_t len)
 {
+    int number = len / BLOCK > MOST_BLOCKS ? BAD_LENGTH : BAD_CONTENT;
     lend(file, len, 0);
-    expect(agree_open(), UNSOUND(0));
-    expect(agree_step(0, 0), 65549);
-    expect(agree_step(0xFFFFFFFFu, 0xFFFFFFFFu), 65549);
-    expect(agree_outputs(0), 65549);
-    expect(agree_outputs(0xFFFFFFFFu), 65549);
+    expect(agree_open(), BROKEN(number, 0));
+    expect(agree_step(0, 0), REFUSED(number));
+    expect(agree_step(0xFFFFFFFFu, 0xFFFFFFFFu), REFUSED(number));
+    expect(agree_outputs(0), REFUSED(number));
+    expect(agree_outputs(0xFFFFFFFFu), REFUSED(number));
     agree_edges();
     unchanged(file);
 }
@@ -59,7 +61,7 @@ static void sizes_passed(void)
 static void by_table(void)
 {
     lend(file, table_file(&t, file), 0);
-    expect(agree_open(), UNSOUND(0));
+    expect(agree_open(), BROKEN(BAD_CONTENT, 0));
     for (uint32_t state = 0; state < t.states; state++) {
         expect(agree_outputs(state), table_outputs(&t, state));
         for (uint32_t input = 0; input < (uint32_t)1 << t.inputs; input++)
@@ -110,7 +112,7 @@ static void filling(uint32_t inputs, uint32_t outputs, uint32_t states)
             file[second_place(at)] = values[v];
             seal(file, len / BLOCK - 1);
             lend(file, len, 0);
-            expect(agree_open(), UNSOUND(0));
+            expect(agree_open(), BROKEN(BAD_CONTENT, 0));
             expect(agree_step(0, 0), table_step(&t, 0, 0));
             expect(agree_outputs(0), table_outputs(&t, 0));
         }

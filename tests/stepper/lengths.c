@@ -10,6 +10,12 @@
 static struct table t;
 static uint8_t file[FILE_ROOM], copy[FILE_ROOM];
 
+/* A length that no file can have is told first; else the content has another count of blocks. */
+static int wrong(size_t len)
+{
+    return len == 0 || len % BLOCK != 0 || len / BLOCK > MOST_BLOCKS ? BAD_LENGTH : BAD_CONTENT;
+}
+
 /* A bad last block is named only where the length is one that a file can have. */
 static void last_block_bad(size_t len)
 {
@@ -18,7 +24,7 @@ static void last_block_bad(size_t len)
         return;
     copy[blocks * BLOCK - 1] ^= 1;
     lend(copy, len, 0);
-    expect(agree_open(), UNSOUND(len % BLOCK == 0 && blocks <= MOST_BLOCKS ? blocks - 1 : 0));
+    expect(agree_open(), wrong(len) == BAD_LENGTH ? BROKEN(BAD_LENGTH, 0) : BROKEN(BAD_CHECK, blocks - 1));
 }
 
 /* The first len bytes as they are, and with numbers, totals and checks made right for len. */
@@ -30,9 +36,10 @@ static void at_length(size_t len, size_t right)
     lend(copy, len, 0);
     uint64_t answer = agree_open();
     if (len != right) {
-        expect(answer, UNSOUND(0));
-        expect(agree_step(0, 0), 65549);
-        expect(agree_outputs(0), 65549);
+        expect(answer, BROKEN(wrong(len), 0));
+        expect(agree_step(0, 0), REFUSED(wrong(len)));
+        expect(agree_step(0xFFFFFFFFu, 0xFFFFFFFFu), REFUSED(wrong(len)));
+        expect(agree_outputs(0), REFUSED(wrong(len)));
     }
     agree_edges();
     last_block_bad(len);
@@ -65,9 +72,9 @@ static void very_long(void)
     expect(table_file(&t, wide), BLOCK);
     for (size_t at = 0; at < sizeof lengths / sizeof *lengths; at++) {
         lend_here(wide, lengths[at]);
-        expect(agree_open(), UNSOUND(0));
-        expect(agree_step(0, 0), 65549);
-        expect(agree_outputs(0), 65549);
+        expect(agree_open(), BROKEN(BAD_LENGTH, 0));
+        expect(agree_step(0, 0), REFUSED(BAD_LENGTH));
+        expect(agree_outputs(0), REFUSED(BAD_LENGTH));
     }
     munmap(wide, room);
 #endif

@@ -62,8 +62,6 @@ static int spare(const struct sizes *z, uint32_t out)
 /* The sizes are within their limits and call for exactly this length. */
 static int shaped(const uint8_t *file, size_t len, struct sizes *z)
 {
-    if (len < BLOCK)
-        return 0;
     z->inputs = file[4];
     z->outputs = file[5];
     z->states = low_first(file + 6, 2);
@@ -72,11 +70,19 @@ static int shaped(const uint8_t *file, size_t len, struct sizes *z)
     return len == (stream_length(z) + PIECE - 1) / PIECE * BLOCK;
 }
 
-static int block_right(const uint8_t *file, size_t number, size_t total)
+/* Zero, not whole blocks, or too many. */
+static int bad_length(size_t len)
+{
+    return len == 0 || len % BLOCK != 0 || len / BLOCK > MOST_BLOCKS;
+}
+
+/* What is broken in a block, or 0. */
+static int block_fault(const uint8_t *file, size_t number, size_t total)
 {
     const uint8_t *block = file + number * BLOCK;
-    return low_first(block, 2) == number && low_first(block + 2, 2) == total
-        && low_first(block + CHECKED, 4) == second_check(block, CHECKED);
+    if (low_first(block, 2) != number || low_first(block + 2, 2) != total)
+        return BAD_NUMBER;
+    return low_first(block + CHECKED, 4) != second_check(block, CHECKED) ? BAD_CHECK : 0;
 }
 
 static int state_right(const uint8_t *file, const struct sizes *z, uint32_t state)
@@ -105,37 +111,42 @@ static int content_right(const uint8_t *file, size_t len)
 
 uint64_t second_open(const uint8_t *file, size_t len)
 {
-    const uint64_t not_sound = (uint64_t)13 << 32;
-    if (len == 0 || len % BLOCK != 0 || len / BLOCK > MOST_BLOCKS)
-        return not_sound;
-    for (size_t number = 0; number < len / BLOCK; number++)
-        if (!block_right(file, number, len / BLOCK))
-            return not_sound + number;
+    if (bad_length(len))
+        return (uint64_t)BAD_LENGTH << 32;
+    for (size_t number = 0; number < len / BLOCK; number++) {
+        int fault = block_fault(file, number, len / BLOCK);
+        if (fault != 0)
+            return ((uint64_t)fault << 32) + number;
+    }
     if (!content_right(file, len))
-        return not_sound;
+        return (uint64_t)BAD_CONTENT << 32;
     return word(file, 4);
 }
 
 uint32_t second_step(const uint8_t *file, size_t len, uint32_t state, uint32_t input)
 {
     struct sizes z;
+    if (bad_length(len))
+        return 65536u + BAD_LENGTH;
     if (!shaped(file, len, &z))
-        return 65536u + 13u;
+        return 65536u + BAD_CONTENT;
     if (state >= z.states || input >= (uint32_t)1 << z.inputs)
         return 65536u + 14u;
     uint32_t next = next_of(file, &z, state, input);
     if (next >= z.states || spare(&z, out_of(file, &z, next)))
-        return 65536u + 13u;
+        return 65536u + BAD_CONTENT;
     return next;
 }
 
 uint32_t second_outputs(const uint8_t *file, size_t len, uint32_t state)
 {
     struct sizes z;
+    if (bad_length(len))
+        return 65536u + BAD_LENGTH;
     if (!shaped(file, len, &z))
-        return 65536u + 13u;
+        return 65536u + BAD_CONTENT;
     if (state >= z.states)
         return 65536u + 14u;
     uint32_t out = out_of(file, &z, state);
-    return spare(&z, out) ? 65536u + 13u : out;
+    return spare(&z, out) ? 65536u + BAD_CONTENT : out;
 }

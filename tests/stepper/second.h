@@ -10,6 +10,9 @@
 #define CHECKED 508u
 #define MOST_BLOCKS 67u
 
+/* What is broken in a file: its length, a block's number or total, a block's check, or all else. */
+enum { BAD_LENGTH = 21, BAD_NUMBER = 22, BAD_CHECK = 23, BAD_CONTENT = 24 };
+
 /* The CRC-32 of a block's first bytes, bit by bit. */
 uint32_t second_check(const uint8_t *bytes, size_t count);
 

@@ -41,7 +41,7 @@ uint32_t table_step(const struct table *t, uint32_t state, uint32_t input)
         return 65550;
     uint32_t next = t->next[state * fan(t) + input];
     if (next >= t->states || (uint32_t)t->out[next] >> t->outputs != 0)
-        return 65549;
+        return 65560;
     return next;
 }
 
@@ -49,7 +49,7 @@ uint32_t table_outputs(const struct table *t, uint32_t state)
 {
     if (state >= t->states)
         return 65550;
-    return (uint32_t)t->out[state] >> t->outputs != 0 ? 65549 : t->out[state];
+    return (uint32_t)t->out[state] >> t->outputs != 0 ? 65560 : t->out[state];
 }
 
 void put_word(uint8_t *file, size_t place, uint32_t value)

@@ -1,40 +1,49 @@
 //! What is broken in a table file that the proved call refused. It explains the refusal, and decides nothing.
 
 use crate::calls::{BLOCK, LARGEST_FILE};
+use crate::refusal::Refusal;
 
 const PIECE: usize = 504;
 const HEAD: usize = 4;
 
-/// In words: what is wrong with the file that was refused with 13 at `place`.
-pub fn found(file: &[u8], place: usize) -> String {
-    if file.is_empty() {
-        return "the file is empty".to_string();
+/// In words: what is wrong with the file that was refused so, and in which block.
+pub fn found(file: &[u8], refusal: Refusal) -> String {
+    let place = refusal.place;
+    let block = || format!("block {place} (bytes {} to {})", place * BLOCK, (place + 1) * BLOCK - 1);
+    match refusal.number {
+        21 => of_length(file.len()),
+        22 => format!("{} {}", block(), of_number(&file[place * BLOCK..], place, file.len() / BLOCK)),
+        23 => format!("{} {}", block(), of_check(&file[place * BLOCK..(place + 1) * BLOCK])),
+        _ => in_table(file),
     }
-    if file.len() > LARGEST_FILE {
-        return format!("the file has more than {LARGEST_FILE} bytes");
-    }
-    if !file.len().is_multiple_of(BLOCK) {
-        return format!("{} bytes are no whole number of blocks of {BLOCK}", file.len());
-    }
-    let block = &file[place * BLOCK..(place + 1) * BLOCK];
-    in_block(block, place, file.len() / BLOCK).unwrap_or_else(|| in_table(file))
 }
 
-fn in_block(block: &[u8], place: usize, blocks: usize) -> Option<String> {
-    let (number, total) = (number(block, 0), number(block, 2));
-    let bytes = format!("block {place} (bytes {} to {})", place * BLOCK, (place + 1) * BLOCK - 1);
-    if number != place {
-        Some(format!("{bytes} says that it is number {number}"))
-    } else if total != blocks {
-        Some(format!("{bytes} says that there are {total} blocks, and there are {blocks}"))
-    } else if check(&block[..BLOCK - 4]).to_le_bytes() != block[BLOCK - 4..] {
-        Some(format!("{bytes} does not match its check: some of it has changed"))
+fn of_length(length: usize) -> String {
+    if length == 0 {
+        "the file is empty".to_string()
+    } else if length > LARGEST_FILE {
+        format!("the file has more than {LARGEST_FILE} bytes")
     } else {
-        None
+        format!("{length} bytes are no whole number of blocks of {BLOCK}")
     }
 }
 
-/// All blocks are whole, so the table in them is at fault.
+fn of_number(block: &[u8], place: usize, blocks: usize) -> String {
+    let (number, total) = (number(block, 0), number(block, 2));
+    if number != place {
+        format!("says that it is number {number}")
+    } else {
+        format!("says that there are {total} blocks, and there are {blocks}")
+    }
+}
+
+fn of_check(block: &[u8]) -> String {
+    let (bytes, end) = block.split_at(BLOCK - 4);
+    let said = u32::from_le_bytes([end[0], end[1], end[2], end[3]]);
+    format!("has changed: its check is {said:08X}, and its bytes give {:08X}", check(bytes))
+}
+
+/// All blocks are good, so the table in them is at fault.
 fn in_table(file: &[u8]) -> String {
     let stream: Vec<u8> = file.chunks(BLOCK).flat_map(|block| &block[HEAD..HEAD + PIECE]).copied().collect();
     let (inputs, outputs, states) = (usize::from(stream[0]), usize::from(stream[1]), number(&stream, 2));

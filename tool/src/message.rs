@@ -32,7 +32,7 @@ impl Message {
 
     /// A table file that was not opened.
     pub fn of_table(name: &str, file: &[u8], refusal: Refusal) -> Message {
-        let hint = Hint::found(broken::found(file, refusal.place));
+        let hint = Hint::found(broken::found(file, refusal));
         Message { refusal, place: name.to_string(), excerpt: None, hint }
     }
 

@@ -4,7 +4,7 @@ use std::fmt;
 
 #[derive(Clone, Copy, PartialEq, Eq, Debug)]
 pub struct Refusal {
-    /// The number in the table of refusals, 1 to 15.
+    /// The number in the table of refusals.
     pub number: u32,
     /// A byte of the source or text, a block of a table file, or 0.
     pub place: usize,

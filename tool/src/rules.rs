@@ -1,6 +1,7 @@
-//! The fifteen refusals in plain words, for messages and for `explain`.
+//! The refusals in plain words, for messages and for `explain`.
 
 pub struct Rule {
+    pub number: u32,
     pub title: &'static str,
     /// What the place of the refusal is.
     pub place: &'static str,
@@ -17,13 +18,17 @@ pub enum Example {
     Way(&'static str),
 }
 
-/// The rule with this number, 1 to 15.
+/// Which numbers there are, for messages.
+pub const NUMBERS: &str = "1 to 12, 14, 15, and 21 to 24";
+
+/// The rule with this number.
 pub fn rule(number: u32) -> Option<&'static Rule> {
-    RULES.get((number as usize).checked_sub(1)?)
+    RULES.iter().find(|rule| rule.number == number)
 }
 
-const RULES: [Rule; 15] = [
+const RULES: [Rule; 18] = [
     Rule {
+        number: 1,
         title: "no such room",
         place: "0",
         rule: "the room, which is how many states a table may have, is 1 to 256",
@@ -31,6 +36,7 @@ const RULES: [Rule; 15] = [
         example: Example::Way("windnadel compile blink.csml --room 0"),
     },
     Rule {
+        number: 2,
         title: "the work area is short",
         place: "0",
         rule: "a compile needs a work area of 32,768 + 64 * room bytes",
@@ -38,6 +44,7 @@ const RULES: [Rule; 15] = [
         example: Example::Way("windnadel_compile(source, length, 1, work, 32768, file, 34304), which needs 32,832"),
     },
     Rule {
+        number: 3,
         title: "the source is too long",
         place: "0",
         rule: "a source has at most 8,192 bytes, blanks included",
@@ -45,6 +52,7 @@ const RULES: [Rule; 15] = [
         example: Example::Way("a source of 8,193 bytes, whatever they are"),
     },
     Rule {
+        number: 4,
         title: "no word starts here, or a word is too large",
         place: "that byte, or the first byte of the word",
         rule: "a program is made of names (a letter first, at most 16 bytes), numbers up to 65,535, the language's signs and \
@@ -56,6 +64,7 @@ const RULES: [Rule; 15] = [
         },
     },
     Rule {
+        number: 5,
         title: "no program goes on so",
         place: "the word, or the length of the text where it ends too early",
         rule: "a program goes on as the grammar says, and no more than 32 levels stand open at once",
@@ -66,6 +75,7 @@ const RULES: [Rule; 15] = [
         },
     },
     Rule {
+        number: 6,
         title: "a name is unknown or declared again, or a call can't be expanded",
         place: "the name, of a call too; the call in the program's own list, for all that it stands for",
         rule: "a name is declared once, before the statements; upper and lower case are different; a call names a procedure \
@@ -77,6 +87,7 @@ const RULES: [Rule; 15] = [
         },
     },
     Rule {
+        number: 7,
         title: "a wrong kind, a changed input, or a bit outside its integer",
         place: "the operator, `int`, `if`, `while` or `case`; `raise`, `lower` or `invert`; the assigned or indexed name; the \
                 call, for what it stands for",
@@ -89,6 +100,7 @@ const RULES: [Rule; 15] = [
         },
     },
     Rule {
+        number: 8,
         title: "nothing to leave",
         place: "the word `exit` or `break`; the call, where that stands in its body",
         rule: "`exit` leaves the smallest loop around it, `break` the smallest switch or parallel, and there must be one",
@@ -99,6 +111,7 @@ const RULES: [Rule; 15] = [
         },
     },
     Rule {
+        number: 9,
         title: "a size is passed",
         place: "the first name, number, statement or part too many; the `parallel` with too many activities; the call with \
                 whose body a size is passed",
@@ -111,6 +124,7 @@ const RULES: [Rule; 15] = [
         },
     },
     Rule {
+        number: 10,
         title: "a number could grow too large",
         place: "the operator; the call, where that stands in its body",
         rule: "no operator's result may be able to pass 2,147,483,647, reckoned from the widths and numbers in it",
@@ -121,6 +135,7 @@ const RULES: [Rule; 15] = [
         },
     },
     Rule {
+        number: 11,
         title: "too many states",
         place: "0",
         rule: "no more states may be reachable than the room has",
@@ -131,6 +146,7 @@ const RULES: [Rule; 15] = [
         },
     },
     Rule {
+        number: 12,
         title: "the file buffer is short",
         place: "0",
         rule: "the whole table file, or KISS text, must fit into the buffer that is lent for it",
@@ -139,13 +155,7 @@ const RULES: [Rule; 15] = [
         example: Example::Way("windnadel_compile(source, length, 256, work, 49152, file, 511)"),
     },
     Rule {
-        title: "the table file is not sound",
-        place: "the position of the bad block, counted from 0; 0 for all else",
-        rule: "a table file is 1 to 67 blocks of 512 bytes, each with its number, their count and its check, around one table",
-        right: "compile the source again, or copy the file again",
-        example: Example::Way("windnadel open of a file of 511 bytes"),
-    },
-    Rule {
+        number: 14,
         title: "no such state or input",
         place: "0",
         rule: "a step takes a state of the table, and an input below 2 to the number of its inputs",
@@ -153,10 +163,44 @@ const RULES: [Rule; 15] = [
         example: Example::Way("windnadel run blink.csml 2, which has one input: 0 and 1 are all there is"),
     },
     Rule {
+        number: 15,
         title: "no table has such a KISS text",
         place: "the first byte with which no such text goes on, or the length of a text that stops early; 0 when writing",
         rule: "a KISS text is what `kiss` writes, byte for byte, and a machine has one if it has inputs and outputs",
         right: "write the text by `kiss` again, or say it as `kiss` would",
         example: Example::Way("windnadel unkiss of a text that begins with `.i 7`: there are at most 6 inputs"),
+    },
+    Rule {
+        number: 21,
+        title: "the table file has a bad length",
+        place: "0",
+        rule: "a table file is 1 to 67 whole blocks of 512 bytes",
+        right: "copy the file again, whole",
+        example: Example::Way("windnadel open of a file of 511 bytes"),
+    },
+    Rule {
+        number: 22,
+        title: "a block of the table file has a wrong number or total",
+        place: "the position of the block, counted from 0",
+        rule: "a block says its own number, counted from 0, and how many blocks there are",
+        right: "copy the file again, with every block once and in order",
+        example: Example::Way("windnadel open of the first block of a file of two, alone"),
+    },
+    Rule {
+        number: 23,
+        title: "a block of the table file does not match its check",
+        place: "the position of the block, counted from 0",
+        rule: "a block ends with the CRC-32 of the 508 bytes before it",
+        right: "copy the file again",
+        example: Example::Way("windnadel open of a file of which one bit has changed"),
+    },
+    Rule {
+        number: 24,
+        title: "the table file holds no sound table",
+        place: "0",
+        rule: "the blocks hold one table: sizes in their range, as many blocks as these call for, no output that is not \
+               declared, no next state that there is not, and zeros behind",
+        right: "compile the source again",
+        example: Example::Way("windnadel open of a file whose blocks are right, and which says that it has no states"),
     },
 ];

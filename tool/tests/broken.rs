@@ -1,4 +1,4 @@
-//! Table files whose blocks are whole and whose table is not: what is wrong is told, state and input by number.
+//! Table files that are broken: what is wrong is told, the block, or the state and input, by number.
 
 mod common;
 
@@ -43,7 +43,35 @@ fn what_is_broken_is_told() {
         let said = tool(&["open", path]);
         assert_eq!(said.status, Some(1));
         assert!(
-            said.err.contains(&format!("= found: {words}\n")) && said.err.ends_with("refused 13 at 0\n"),
+            said.err.contains(&format!("= found: {words}\n")) && said.err.ends_with("refused 24 at 0\n"),
+            "{}",
+            said.err
+        );
+    }
+}
+
+#[test]
+fn which_block_is_broken_is_told() {
+    let folder = Folder::new();
+    let table = folder.path().join("mast.table");
+    let path = table.to_str().unwrap();
+    assert_eq!(tool(&["compile", example("mast.csml").to_str().unwrap(), "-o", path]).status, Some(0));
+    let sound = std::fs::read(&table).unwrap();
+    for (at, value, words, refused) in [
+        (1024, 3, "block 2 (bytes 1024 to 1535) says that it is number 3", "refused 22 at 2"),
+        (1026, 31, "block 2 (bytes 1024 to 1535) says that there are 31 blocks, and there are 30", "refused 22 at 2"),
+        (14_848, 0, "block 29 (bytes 14848 to 15359) says that it is number 0", "refused 22 at 29"),
+        (1535, sound[1535] ^ 1, "block 2 (bytes 1024 to 1535) has changed: its check is ", "refused 23 at 2"),
+    ] {
+        let mut broken = sound.clone();
+        broken[at] = value;
+        // The last block's total is wrong too, and never comes first.
+        broken[14_850] ^= 1;
+        std::fs::write(&table, broken).unwrap();
+        let said = tool(&["open", path]);
+        assert_eq!(said.status, Some(1));
+        assert!(
+            said.err.contains(&format!("= found: {words}")) && said.err.ends_with(&format!("{refused}\n")),
             "{}",
             said.err
         );

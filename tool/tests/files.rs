@@ -236,7 +236,7 @@ fn long_sources_are_refused_and_not_read_to_the_end() {
         let said = tool(&[command, text(&huge)]);
         assert!(said.status == Some(1) && (said.err + &said.out).ends_with("refused 3 at 0\n"));
     }
-    assert!(tool(&["open", text(&huge)]).err.ends_with("\nrefused 13 at 0\n"));
+    assert!(tool(&["open", text(&huge)]).err.ends_with("\nrefused 21 at 0\n"));
     assert!(tool(&["check", "/dev/zero"]).err.ends_with("\nrefused 3 at 0\n"));
     assert!(begun.elapsed() < Duration::from_secs(5));
     assert_eq!(folder.names(), ["huge", "long", "most"]);

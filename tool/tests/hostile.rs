@@ -90,7 +90,9 @@ fn any_table_file_is_told() {
     for seed in 0..40 {
         let file = folder.file("noise.table", &noise(seed, 512 * (seed as usize % 4)));
         let said = common::tool(&["open", file.to_str().unwrap()]);
-        assert!(said.status == Some(1) && said.err.ends_with("\nrefused 13 at 0\n"), "{}", said.err);
+        // Nothing is a bad length; noise has a wrong number.
+        let number = if seed % 4 == 0 { 21 } else { 22 };
+        assert!(said.status == Some(1) && said.err.ends_with(&format!("\nrefused {number} at 0\n")), "{}", said.err);
         assert!(is_harmless(&said.err));
     }
 }

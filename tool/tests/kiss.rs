@@ -100,7 +100,7 @@ fn a_refusal_leaves_what_was_there() {
     assert_eq!(fs::read(&back).unwrap(), b"as it was");
     let broken = folder.file("broken.table", &[0; 512]);
     let said = tool(&["kiss", text(&broken), "-o", text(&back)]);
-    assert!(said.status == Some(1) && said.err.ends_with("\nrefused 13 at 0\n"), "{}", said.err);
+    assert!(said.status == Some(1) && said.err.ends_with("\nrefused 22 at 0\n"), "{}", said.err);
     assert_eq!(fs::read(&back).unwrap(), b"as it was");
     assert_eq!(folder.names(), ["back.table", "broken.table"]);
 }

@@ -53,7 +53,7 @@ fn what_makes_no_command_is_told() {
     is_bad_usage(&["unkiss", "x", "-o", "-"], "-o wants a file");
     is_bad_usage(&["run", "-"], "inputs are arguments");
     is_bad_usage(&["vcd", "-"], "inputs are arguments");
-    for number in ["0", "16", "-1x", "", "four", "4294967297", "99999999999"] {
+    for number in ["0", "13", "16", "20", "25", "-1x", "", "four", "4294967297", "99999999999"] {
         is_bad_usage(&["explain", "--", number], "is no refusal");
     }
 }
@@ -95,6 +95,23 @@ fn standard_input_is_a_hyphen() {
     let table = std::fs::read(target).unwrap();
     for arguments in [&["open", "-"][..], &["draw", "-"], &["kiss", "-"], &["run", "-", "1"]] {
         assert_eq!(tool_with(arguments, &table).status, Some(0), "{arguments:?}");
+    }
+}
+
+#[test]
+fn what_is_broken_is_explained() {
+    for (number, title) in [
+        (21, "the table file has a bad length"),
+        (22, "a block of the table file has a wrong number or total"),
+        (23, "a block of the table file does not match its check"),
+        (24, "the table file holds no sound table"),
+    ] {
+        let said = tool(&["explain".to_string(), number.to_string()]);
+        assert!(
+            said.status == Some(0) && said.out.starts_with(&format!("refused {number}: {title}\n")),
+            "{}",
+            said.out
+        );
     }
 }
 

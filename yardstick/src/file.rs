@@ -12,6 +12,10 @@ const PIECE: usize = 504;
 const LARGEST_FILE: usize = 67;
 /// The stream's first numbers: inputs, outputs, states.
 const HEADER: usize = 4;
+/// "A bad length (21: zero, not whole blocks or too many)."
+const BAD_LENGTH: Refusal = Refusal { number: 21, place: 0 };
+/// "Bad content (24: all else)."
+const BAD_CONTENT: Refusal = Refusal { number: 24, place: 0 };
 
 /// The file of a table: "number from 0 (2), blocks in the file (2), piece, CRC-32 of the first 508".
 pub fn write(table: &Table) -> Vec<u8> {
@@ -59,21 +63,20 @@ pub struct Controller {
     pub outputs: u16,
 }
 
-/// Opens a file: "opening a sound file sets it to state 0 and that state's outputs", and refusal 13 says why it is not
-/// sound.
+/// Opens a file: "opening a sound file sets it to state 0 and that state's outputs", and refusals 21 to 24 say why it is
+/// not sound.
 pub fn open(file: &[u8]) -> Result<Controller, Refusal> {
-    let blocks = file.len() / BLOCK;
-    if file.is_empty() || !file.len().is_multiple_of(BLOCK) || blocks > LARGEST_FILE {
-        return Err(Refusal::at(13, 0));
+    if !length_is_good(file.len()) {
+        return Err(BAD_LENGTH);
     }
     for (number, block) in file.chunks(BLOCK).enumerate() {
-        if !block_is_sound(block, number, blocks) {
-            return Err(Refusal::at(13, number));
+        if let Some(fault) = block_fault(block, number, file.len() / BLOCK) {
+            return Err(Refusal::at(fault, number));
         }
     }
-    let shape = Shape::of(file).filter(|shape| shape.file_length() == file.len()).ok_or(Refusal::at(13, 0))?;
+    let shape = Shape::of(file)?;
     if !shape.content_is_sound(file) {
-        return Err(Refusal::at(13, 0));
+        return Err(BAD_CONTENT);
     }
     Ok(Controller { state: 0, outputs: number_at(file, shape.outputs_at(0)) })
 }
@@ -89,10 +92,17 @@ pub fn read(file: &[u8]) -> Result<Table, Refusal> {
     Ok(Table { inputs: shape.inputs, outputs: shape.outputs, rows: (0..shape.states).map(row).collect() })
 }
 
-/// "The first block with a wrong number, total or check."
-fn block_is_sound(block: &[u8], number: usize, blocks: usize) -> bool {
+fn length_is_good(length: usize) -> bool {
+    length != 0 && length.is_multiple_of(BLOCK) && length / BLOCK <= LARGEST_FILE
+}
+
+/// "A bad number or total (22), a bad check (23) .., in that order within a block."
+fn block_fault(block: &[u8], number: usize, blocks: usize) -> Option<u8> {
     let here = |at: usize| usize::from(u16::from_le_bytes([block[at], block[at + 1]]));
-    here(0) == number && here(2) == blocks && crc32(&block[..BLOCK - 4]).to_le_bytes() == block[BLOCK - 4..]
+    if here(0) != number || here(2) != blocks {
+        return Some(22);
+    }
+    (crc32(&block[..BLOCK - 4]).to_le_bytes() != block[BLOCK - 4..]).then_some(23)
 }
 
 impl Controller {
@@ -104,20 +114,23 @@ impl Controller {
     }
 }
 
-/// The next state and its outputs, refused "in this order and at place 0": the file's shape (13), "state or input not
-/// in the table (14)", "the next state read not below N, or its spare output bits not zero (13)".
+/// The next state and its outputs, refused "in this order and at place 0": "21 first", the file's shape (24), "state or
+/// input not in the table (14)", "the next state read not below N, or its spare output bits not zero" (24).
 pub fn step(file: &[u8], state: u32, input: u32) -> Result<Controller, Refusal> {
-    let shape = Shape::of(file).filter(|shape| shape.file_length() == file.len()).ok_or(Refusal::at(13, 0))?;
+    if !length_is_good(file.len()) {
+        return Err(BAD_LENGTH);
+    }
+    let shape = Shape::of(file)?;
     if state as usize >= shape.states || input as usize >= 1 << shape.inputs {
         return Err(Refusal::at(14, 0));
     }
     let next = number_at(file, shape.next_at(state as usize, input as usize));
     if usize::from(next) >= shape.states {
-        return Err(Refusal::at(13, 0));
+        return Err(BAD_CONTENT);
     }
     let outputs = number_at(file, shape.outputs_at(usize::from(next)));
     if shape.has_spare_bits(outputs) {
-        return Err(Refusal::at(13, 0));
+        return Err(BAD_CONTENT);
     }
     Ok(Controller { state: u32::from(next), outputs })
 }
@@ -130,18 +143,19 @@ struct Shape {
 }
 
 impl Shape {
-    /// None for "a length under 512, k, outputs or N outside the sizes (N as the room)".
-    fn of(file: &[u8]) -> Option<Shape> {
-        if file.len() < BLOCK {
-            return None;
-        }
+    /// "K, outputs or N outside the sizes (N as the room), or a length other than the one they call for" is bad content.
+    fn of(file: &[u8]) -> Result<Shape, Refusal> {
         let shape = Shape {
             inputs: usize::from(byte_at(file, 0)),
             outputs: usize::from(byte_at(file, 1)),
             states: usize::from(number_at(file, 2)),
         };
         let inside = shape.inputs <= 6 && shape.outputs <= 16 && (1..=256).contains(&shape.states);
-        inside.then_some(shape)
+        if inside && shape.file_length() == file.len() {
+            Ok(shape)
+        } else {
+            Err(BAD_CONTENT)
+        }
     }
 
     fn row_length(&self) -> usize {

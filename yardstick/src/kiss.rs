@@ -9,8 +9,8 @@ const NO_TEXT: u8 = 15;
 /// "A short buffer, either way, is 12 and comes last."
 const SHORT: u8 = 12;
 
-/// The text of a table file, for a buffer of so many bytes. "An unsound file is 13, then a machine with no inputs or no
-/// outputs is refusal 15 at 0 when writing; a short buffer, either way, is 12 and comes last."
+/// The text of a table file, for a buffer of so many bytes. "An unsound file is 13", which is now what opening says, "then a
+/// machine with no inputs or no outputs is refusal 15 at 0 when writing; a short buffer, either way, is 12 and comes last."
 pub fn write(file: &[u8], buffer: u64) -> Result<String, Refusal> {
     let table = file::read(file)?;
     if table.inputs == 0 || table.outputs == 0 {

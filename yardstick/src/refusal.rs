@@ -5,7 +5,7 @@ use std::fmt;
 /// "The lowest number wins, then the earliest place": the order of the fields is the order of refusals.
 #[derive(Clone, Copy, PartialEq, Eq, PartialOrd, Ord, Debug)]
 pub struct Refusal {
-    /// The number in the table of refusals, 1 to 15.
+    /// The number in the table of refusals.
     pub number: u8,
     /// "The place is a byte offset, 0 where none is given."
     pub place: usize,

@@ -80,27 +80,34 @@ fn what_is_lent() {
 fn opening_refuses() {
     let file = long_file();
     assert_eq!(open(&file), Ok(Controller { state: 0, outputs: 0 }));
-    assert_eq!(open(&[]), refusal(13, 0));
-    assert_eq!(open(&file[..file.len() - 1]), refusal(13, 0));
-    assert_eq!(open(&vec![0; 68 * BLOCK]), refusal(13, 0));
+    assert_eq!(open(&[]), refusal(21, 0));
+    assert_eq!(open(&file[..file.len() - 1]), refusal(21, 0));
+    assert_eq!(open(&vec![0; 68 * BLOCK]), refusal(21, 0));
     for (block, at) in [(0, 0), (2, 0), (3, 2), (4, 100), (5, 511)] {
         let mut damaged = file.clone();
         damaged[block * BLOCK + at] ^= 1;
-        assert_eq!(open(&damaged), refusal(13, block));
+        assert_eq!(open(&damaged), refusal(if at < 4 { 22 } else { 23 }, block));
         if at < 4 {
-            assert_eq!(open(&sealed(damaged)), refusal(13, block));
+            assert_eq!(open(&sealed(damaged)), refusal(22, block));
         }
     }
+    // Within a block the number comes first; a later block's number never comes before an earlier block's check.
+    let mut both = file.clone();
+    both[2 * BLOCK + 511] ^= 1;
+    both[4 * BLOCK] ^= 1;
+    assert_eq!(open(&both), refusal(23, 2));
+    both[2 * BLOCK + 2] ^= 1;
+    assert_eq!(open(&both), refusal(22, 2));
     // A block's place is its position: cut short, every block has a wrong total, so the first is named.
-    assert_eq!(open(&file[..BLOCK]), refusal(13, 0));
+    assert_eq!(open(&file[..BLOCK]), refusal(22, 0));
     // Blocks two and three exchanged.
     let swapped =
         [&file[..2 * BLOCK], &file[3 * BLOCK..4 * BLOCK], &file[2 * BLOCK..3 * BLOCK], &file[4 * BLOCK..]].concat();
-    assert_eq!(open(&swapped), refusal(13, 2));
+    assert_eq!(open(&swapped), refusal(22, 2));
     for (at, byte) in
         [(0, 7), (0, 3), (1, 17), (2, 1), (3, 0), (3, 2), (4, 2), (5, 1), (7, 1), (2_563, 2), (2_564, 1), (3_023, 1)]
     {
-        assert_eq!(open(&changed(&file, at, byte)), refusal(13, 0), "{at} {byte}");
+        assert_eq!(open(&changed(&file, at, byte)), refusal(24, 0), "{at} {byte}");
     }
     assert_eq!(open(&changed(&file, 4, 1)), Ok(Controller { state: 0, outputs: 1 }));
 }
@@ -114,15 +121,17 @@ fn stepping_refuses() {
     assert_eq!(step(&file, 256, 0), refusal(14, 0));
     assert_eq!(step(&file, 0, 4), refusal(14, 0));
     assert_eq!(step(&file, u32::MAX, u32::MAX), refusal(14, 0));
-    assert_eq!(step(&[], 999, 999), refusal(13, 0));
-    assert_eq!(step(&file[..511], 0, 0), refusal(13, 0));
-    assert_eq!(step(&file[..5 * BLOCK], 0, 0), refusal(13, 0));
+    assert_eq!(step(&[], 999, 999), refusal(21, 0));
+    assert_eq!(step(&file[..511], 0, 0), refusal(21, 0));
+    assert_eq!(step(&file[..file.len() - 1], 999, 999), refusal(21, 0));
+    assert_eq!(step(&vec![0; 68 * BLOCK], 0, 0), refusal(21, 0));
+    assert_eq!(step(&file[..5 * BLOCK], 0, 0), refusal(24, 0));
     for (at, byte) in [(0, 7), (0, 3), (1, 17), (3, 0), (3, 2)] {
-        assert_eq!(step(&changed(&file, at, byte), 999, 999), refusal(13, 0), "{at}");
+        assert_eq!(step(&changed(&file, at, byte), 999, 999), refusal(24, 0), "{at}");
     }
     // The next state read, then its spare output bits; and no check is made again.
-    assert_eq!(step(&changed(&file, 7, 1), 0, 0), refusal(13, 0));
-    assert_eq!(step(&changed(&file, 15, 1), 0, 0), refusal(13, 0));
+    assert_eq!(step(&changed(&file, 7, 1), 0, 0), refusal(24, 0));
+    assert_eq!(step(&changed(&file, 15, 1), 0, 0), refusal(24, 0));
     let mut unsealed = file.clone();
     unsealed[511] ^= 1;
     assert!(step(&unsealed, 0, 0).is_ok());

@@ -37,8 +37,8 @@ fn a_file_has_its_text_and_a_text_its_file() {
 #[test]
 fn writing_refuses() {
     let file = file_of(BLINK);
-    assert_eq!(write(&[], 0), Err(Refusal::at(13, 0)));
-    assert_eq!(write(&file[..511], 0), Err(Refusal::at(13, 0)));
+    assert_eq!(write(&[], 0), Err(Refusal::at(21, 0)));
+    assert_eq!(write(&file[..511], 0), Err(Refusal::at(21, 0)));
     for source in
         ["program p; output L; raise(L) endprog", "program p; input A; skip endprog", "program p; skip endprog"]
     {

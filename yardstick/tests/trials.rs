@@ -76,6 +76,6 @@ fn lengths() {
     assert_eq!(blink, Controller { state: 1, outputs: 1 });
     assert_eq!(blink.step(&file, 2), Err(Refusal::at(14, 0)));
     assert_eq!(blink, Controller { state: 1, outputs: 1 });
-    assert_eq!(open(&file[..511]), Err(Refusal::at(13, 0)));
-    assert_eq!(blink.step(&file[..511], 0), Err(Refusal::at(13, 0)));
+    assert_eq!(open(&file[..511]), Err(Refusal::at(21, 0)));
+    assert_eq!(blink.step(&file[..511], 0), Err(Refusal::at(21, 0)));
 }

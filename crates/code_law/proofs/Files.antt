@@ -8,10 +8,12 @@ use native.Mathlib.Omega.{arith}
 use lib.Dec.{ltb}
 use lib.ListN.{length}
 use lib.Pow.{pow-mono}
-use Rattle.file_law.specs.Answer.{Answer, gives, refuses, unsound, unless, both, every}
+use Rattle.file_law.specs.Answer.{Answer, gives, refuses, badLength, badNumber, badCheck, badContent, unless, both, every, firstNot}
 use Rattle.file_law.specs.Table.{Running}
-use Rattle.file_law.specs.Reading.{lengthGood, blockGood, streamIn, inputsIn, outputsIn, outputsAt, nextAt, clearAt, contentGood, Sizes, sizesIn, blocksAnswer, openAnswer}
-use Rattle.file_law.specs.Stepping.{shapeGood, standAnswer, moveAnswer, stepAnswer, lookAnswer, outputsAnswer, startIn, startAnswer, stepCode, outputsCode, openCode}
+use Rattle.file_law.specs.Reading.{mostBlocks, lengthGood, numberGood, blockGood, blockFault, streamIn, inputsIn, outputsIn, outputsAt, nextAt, clearAt, contentGood, Sizes, sizesIn, blocksAnswer, openAnswer}
+use Rattle.file_law.specs.Stepping.{shapeGood, shapeFirst, standAnswer, moveAnswer, stepAnswer, lookAnswer, outputsAnswer, startIn, startAnswer, stepCode, outputsCode, openCode}
+use Rattle.file_law.proofs.Every.{first-bound}
+use Rattle.file_law.proofs.Tests.{whole}
 use Rattle.file_law.proofs.Codes.{Stood, step-stood, outputs-stood, outputs-fit}
 use Rattle.file_law.proofs.Sound.{sound}
 
@@ -22,25 +24,33 @@ either P false x y = x
 
 -- ---- open
 
--- state 0 with outputs of 16 bits, or refusal 13
+-- state 0 with outputs of 16 bits, or a refusal at a place that is no larger than the largest file, in blocks
 abbrev Opened : Answer Running → Type 0
 Opened (gives r) = (r .state ≡ 0) × (r .outputs < 65536)
-Opened (refuses number place) = number ≡ unsound
+Opened (refuses number place) = (1 ≤ number) × (place ≤ mostBlocks)
 
-abbrev Unsound : Answer Sizes → Type 0
-Unsound (gives z) = Unit
-Unsound (refuses number place) = number ≡ unsound
+abbrev Near : Answer Sizes → Type 0
+Near (gives z) = Unit
+Near (refuses number place) = (1 ≤ number) × (place ≤ mostBlocks)
 
 module _ (f : List ℕ) where
-  blocks-unsound : (total : ℕ) → Unsound (blocksAnswer f total)
-  unfolding blocksAnswer
-  blocks-unsound total =
-      let content : Unsound (unless (contentGood (streamIn f) total) (refuses unsound 0) (gives (sizesIn (streamIn f)))) = either Unsound (contentGood (streamIn f) total) refl tt in
-      either Unsound (every (blockGood f total) total 0) refl content
+  fault-some : (t : Bool) → 1 ≤ unless t badNumber badCheck
+  fault-some true = omega arith
+  fault-some false = omega arith
 
-  open-unsound : Unsound (openAnswer f)
+  blocks-near : (total : ℕ) → total ≤ mostBlocks → Near (blocksAnswer f total)
+  unfolding blocksAnswer blockFault
+  blocks-near total h =
+      let content : Near (unless (contentGood (streamIn f) total) (refuses badContent 0) (gives (sizesIn (streamIn f)))) = either Near (contentGood (streamIn f) total) (omega arith, omega arith) tt in
+      either Near (every (blockGood f total) total 0) (fault-some (numberGood f total (firstNot (blockGood f total) total 0)), omega (arith, first-bound (blockGood f total) total 0)) content
+
+  open-near : Near (openAnswer f)
   unfolding openAnswer
-  open-unsound = either Unsound (lengthGood (length f)) refl (blocks-unsound (length f / 512))
+  open-near = by (lengthGood (length f)) refl
+    where
+      by : (t : Bool) → lengthGood (length f) ≡ t → Near (unless t (refuses badLength 0) (blocksAnswer f (length f / 512)))
+      by true e = blocks-near (length f / 512) (whole (length f) e .few)
+      by false e = (omega arith, omega arith)
 
   open-small : (a : Answer Sizes) → openAnswer f ≡ a → Opened (startIn (streamIn f) a)
   open-small (gives z) e =
@@ -49,7 +59,7 @@ module _ (f : List ℕ) where
       let p : 2 ^ outputsIn (streamIn f) ≤ 65536 = pow-mono {j = 16} (s .shape .size .outputs) in
       let c : outputsAt (streamIn f) (z .inputs) 0 < 2 ^ outputsIn (streamIn f) = subst (λ (x : ℕ). outputsAt (streamIn f) x 0 < 2 ^ outputsIn (streamIn f)) k (s .rows .clear 0 (omega (arith, s .shape .size .some))) in
       (refl, omega arith)
-  open-small (refuses number place) e = subst Unsound e open-unsound
+  open-small (refuses number place) e = subst Near e open-near
 
   opened : Opened (startAnswer f)
   unfolding startAnswer
@@ -57,9 +67,12 @@ module _ (f : List ℕ) where
 
 read-open : (a b : Answer Running) → Opened a → Opened b → openCode a ≡ openCode b → a ≡ b
 read-open (gives r) (gives q) x y e = ap₂ (λ (s o : ℕ). gives (record { state = s; outputs = o })) (x .0 ∙ sym (y .0)) e
-read-open (gives r) (refuses j q) x y e = absurd (omega (arith, x .1))
-read-open (refuses i p) (gives r) x y e = absurd (omega (arith, y .1))
-read-open (refuses i p) (refuses j q) x y e = let z : p ≡ q = omega arith in ap₂ (λ (i j : ℕ). refuses i j) (x ∙ sym y) z
+read-open (gives r) (refuses j q) x y e = absurd (omega (arith, x .1, y .0))
+read-open (refuses i p) (gives r) x y e = absurd (omega (arith, y .1, x .0))
+read-open (refuses i p) (refuses j q) x y e =
+    let n : i ≡ j = omega (arith, x .1, y .1) in
+    let z : p ≡ q = omega (arith, n) in
+    ap₂ (λ (i j : ℕ). refuses i j) n z
 
 -- two openings with one number have one answer
 pub open-read : (f g : List ℕ) → openCode (startAnswer f) ≡ openCode (startAnswer g) → startAnswer f ≡ startAnswer g
@@ -71,17 +84,21 @@ abbrev NoPlace : Answer Running → Type 0
 NoPlace (gives r) = Unit
 NoPlace (refuses number place) = place ≡ 0
 
+-- what holds of the refusals of length and shape, and of what is asked, holds of the answer
+either-first : (P : Answer Running → Type 0) (f : List ℕ) {a : Answer Running} → P (refuses badLength 0) → P (refuses badContent 0) → P a → P (shapeFirst f a)
+either-first P f x y z = either P (lengthGood (length f)) x (either P (shapeGood f) y z)
+
 stand-none : (b : ℕ → ℕ) (k o state : ℕ) → NoPlace (standAnswer b k o state)
 unfolding standAnswer
 stand-none b k o state = either NoPlace (clearAt b k o state) refl tt
 
 step-none : (f : List ℕ) (state input : ℕ) → NoPlace (stepAnswer f state input)
 unfolding stepAnswer moveAnswer
-step-none f state input = either NoPlace (shapeGood f) refl (either NoPlace (both (ltb state _) (ltb input _)) refl (either NoPlace (ltb (nextAt (streamIn f) _ state input) _) refl (stand-none (streamIn f) _ _ _)))
+step-none f state input = either-first NoPlace f refl refl (either NoPlace (both (ltb state _) (ltb input _)) refl (either NoPlace (ltb (nextAt (streamIn f) _ state input) _) refl (stand-none (streamIn f) _ _ _)))
 
 outputs-none : (f : List ℕ) (state : ℕ) → NoPlace (outputsAnswer f state)
 unfolding outputsAnswer lookAnswer
-outputs-none f state = either NoPlace (shapeGood f) refl (either NoPlace (ltb state _) refl (stand-none (streamIn f) _ _ state))
+outputs-none f state = either-first NoPlace f refl refl (either NoPlace (ltb state _) refl (stand-none (streamIn f) _ _ state))
 
 -- .. and outputs are those of the state that was asked for
 abbrev At : ℕ → Answer Running → Type 0
@@ -90,7 +107,7 @@ At state (refuses number place) = Unit
 
 outputs-at : (f : List ℕ) (state : ℕ) → At state (outputsAnswer f state)
 unfolding outputsAnswer lookAnswer standAnswer
-outputs-at f state = either (At state) (shapeGood f) tt (either (At state) (ltb state _) tt (either (At state) (clearAt (streamIn f) _ _ state) tt refl))
+outputs-at f state = either-first (At state) f tt tt (either (At state) (ltb state _) tt (either (At state) (clearAt (streamIn f) _ _ state) tt refl))
 
 same-refusal : (i j p q : ℕ) → p ≡ 0 → q ≡ 0 → 65536 + i ≡ 65536 + j → _≡_ {A = Answer Running} (refuses i p) (refuses j q)
 same-refusal i j p q x y e = let n : i ≡ j = omega arith in ap₂ (λ (i j : ℕ). refuses i j) n (x ∙ sym y)

@@ -2,22 +2,21 @@
 -- Assumes nothing.
 use mathlib.Core.Path.{_≡_, refl, sym, ap, ap₂, _∙_}
 use mathlib.Core.Logic.{_↔_}
-use mathlib.Core.Bool.{Bool, true}
+use mathlib.Core.Bool.{true}
 use Prim.Native.Nat.{ℕ, zero, suc, _+_, _*_, _/_, _^_, _≤_, _<_}
 use native.Mathlib.Omega.{arith}
 use native.Mathlib.Decide.{decLt}
 use mathlib.Core.List.{List, _∷_, _++_}
 use lib.ListN.{length, getD, take, drop, List·getD-eq-default}
 use lib.Seq.{ext-getD, getD-drop}
-use lib.Dec.{eqb}
-use borrow.Author.Tests.{eqb-true}
 use Rattle.crc_law.specs.Crc.{crcOf, AllBytes}
-use Rattle.file_law.specs.Answer.{gives, both, listed}
-use Rattle.file_law.specs.Bytes.{low2, low4, word2, word4, bytesOf}
+use Rattle.file_law.specs.Answer.{gives, listed}
+use Rattle.file_law.specs.Bytes.{low2, low4, bytesOf}
 use Rattle.file_law.specs.Table.{Table, Fits}
 use Rattle.file_law.specs.File.{words, rowBytes, rowsBytes, streamOf, pieceOf, bodyOf, blockOf, blocks, blockCount, fileOf}
 use Rattle.file_law.specs.Reading.{blockGood, place, streamIn, inputsIn, statesIn, rowLength, rowAt, streamLength, outputsAt, nextAt, Sizes, openAnswer, rowIn, tableIn}
-use Rattle.file_law.proofs.Every.{both-left, both-right, length-listed, getD-listed}
+use Rattle.file_law.proofs.Every.{length-listed, getD-listed}
+use Rattle.file_law.proofs.Tests.{block}
 use Rattle.file_law.proofs.Blocks.{length-piece, piece-at}
 use Rattle.file_law.proofs.Held.{rows-in}
 use Rattle.file_law.proofs.Sound.{sound, sound-fits}
@@ -63,26 +62,14 @@ module _ (f : List ℕ) (bytes : AllBytes f) (total n : ℕ) (good : blockGood f
   abbrev p : ℕ → ℕ
   p = bytesOf f
 
-  abbrev checked : Bool
-  checked = eqb (word4 p (at + 508)) (crcOf (take 508 (drop at f)))
-
-  abbrev counted : Bool
-  counted = eqb (word2 p (at + 2)) total
-
-  abbrev numbered : Bool
-  numbered = eqb (word2 p at) n
-
   number : low2 n ≡ listed p 2 at
-  unfolding blockGood
-  number = ap low2 (sym (eqb-true (word2 p at) n (both-left numbered (both counted checked) good))) ∙ low2-word p bytes at
+  number = ap low2 (sym (block f total n good .numbered .number)) ∙ low2-word p bytes at
 
   count : low2 total ≡ listed p 2 (at + 2)
-  unfolding blockGood
-  count = ap low2 (sym (eqb-true (word2 p (at + 2)) total (both-left counted checked (both-right numbered (both counted checked) good)))) ∙ low2-word p bytes (at + 2)
+  count = ap low2 (sym (block f total n good .numbered .count)) ∙ low2-word p bytes (at + 2)
 
   check : low4 (crcOf (take 508 (drop at f))) ≡ listed p 4 (at + 508)
-  unfolding blockGood
-  check = ap low4 (sym (eqb-true _ _ (both-right counted checked (both-right numbered (both counted checked) good)))) ∙ low4-word p bytes (at + 508)
+  check = ap low4 (sym (block f total n good .checked)) ∙ low4-word p bytes (at + 508)
 
   module _ (rest : List ℕ) (same : pieceOf rest ≡ listed p 504 (at + 4)) where
     body-same : bodyOf n total rest ≡ listed p 508 at

@@ -3,18 +3,18 @@
 use mathlib.Core.Path.{_≡_, refl, sym, ap, _∙_, subst}
 use Prim.Native.Nat.{ℕ, _^_, _≤_, _<_}
 use native.Mathlib.Omega.{arith}
-use mathlib.Core.Bool.{Bool, true}
+use mathlib.Core.Bool.{true}
 use mathlib.Core.List.{List}
 use lib.Dec.{ltb}
 use lib.Pow.{pow-mono}
 use borrow.Author.Tests.{ltb-true}
-use Rattle.file_law.specs.Answer.{Answer, gives, refuses, unsound, notInTable, unless, both}
+use Rattle.file_law.specs.Answer.{Answer, gives, badContent, notInTable, both}
 use Rattle.file_law.specs.Table.{Running}
 use Rattle.file_law.specs.Reading.{streamIn, inputsIn, outputsIn, statesIn, outputsAt, nextAt, clearAt}
 use Rattle.file_law.specs.Stepping.{shapeGood, Shape, standsIn, standAnswer, moveAnswer, stepAnswer, lookAnswer, outputsAnswer, stepCode}
-use Rattle.file_law.proofs.Answers.{never, same, passed}
-use Rattle.file_law.proofs.Tests.{shape, shape-good}
-use Rattle.file_law.proofs.Steps.{stand-clear, look-on}
+use Rattle.file_law.proofs.Answers.{same, passed}
+use Rattle.file_law.proofs.Tests.{shape}
+use Rattle.file_law.proofs.Steps.{shape-asked, shape-passed, stand-clear, look-on}
 
 -- a record that stands in a state of the table, its outputs clear of spare bits
 pub record Stood (f : List ℕ) (r : Running) : Type 0 where
@@ -28,7 +28,7 @@ module _ (f : List ℕ) (r : Running) where
   unfolding standAnswer
   stood state good h e =
       let b = streamIn f in
-      let p = passed (clearAt b (inputsIn b) (outputsIn b) state) unsound 0 (gives (standsIn b (inputsIn b) state)) e in
+      let p = passed (clearAt b (inputsIn b) (outputsIn b) state) badContent 0 (gives (standsIn b (inputsIn b) state)) e in
       subst (λ (x : Running). Stood f x) (same (p .1)) (record { shape = shape f good; state = h; clear = ltb-true _ _ (p .0); outputs = refl })
 
   -- whatever the file, a step that is given stands in the table
@@ -36,15 +36,15 @@ module _ (f : List ℕ) (r : Running) where
   unfolding stepAnswer moveAnswer
   step-stood state input e =
       let b = streamIn f in
-      let p = passed (shapeGood f) unsound 0 _ e in
+      let p = shape-passed f _ e in
       let q = passed (both (ltb state (statesIn b)) (ltb input (2 ^ inputsIn b))) notInTable 0 _ (p .1) in
-      let n = passed (ltb (nextAt b (inputsIn b) state input) (statesIn b)) unsound 0 _ (q .1) in
+      let n = passed (ltb (nextAt b (inputsIn b) state input) (statesIn b)) badContent 0 _ (q .1) in
       stood (nextAt b (inputsIn b) state input) (p .0) (ltb-true _ _ (n .0)) (n .1)
 
   pub outputs-stood : (state : ℕ) → outputsAnswer f state ≡ gives r → Stood f r
   unfolding outputsAnswer lookAnswer
   outputs-stood state e =
-      let p = passed (shapeGood f) unsound 0 _ e in
+      let p = shape-passed f _ e in
       let q = passed (ltb state (statesIn (streamIn f))) notInTable 0 _ (p .1) in
       stood state (p .0) (ltb-true _ _ (q .0)) (q .1)
 
@@ -54,7 +54,7 @@ module _ (f : List ℕ) (r : Running) where
   outputs-after-step state input e =
       let b = streamIn f in
       let s = step-stood state input e in
-      ap (λ (t : Bool). unless t (refuses unsound 0) (lookAnswer b (inputsIn b) (outputsIn b) (statesIn b) (r .state))) (shape-good (s .shape))
+      shape-asked (lookAnswer b (inputsIn b) (outputsIn b) (statesIn b) (r .state)) (s .shape)
       ∙ look-on b (inputsIn b) (outputsIn b) (r .state) (statesIn b) (s .state)
       ∙ stand-clear b (inputsIn b) (outputsIn b) (r .state) (s .clear)
       ∙ ap (λ (x : ℕ). gives (record { state = r .state; outputs = x })) (sym (s .outputs))

@@ -7,11 +7,12 @@ use mathlib.Core.Bool.{Bool, true, false}
 use mathlib.Core.List.{List}
 use lib.ListN.{length}
 use lib.Dec.{eqb}
-use borrow.Author.Tests.{le-leb, lt-leb, eqb-true, eqb-false, eq-eqb, ne-eqb}
-use Rattle.file_law.specs.Answer.{gives, refuses, unsound, unless, both, every}
+use borrow.Author.Tests.{eqb-true, eqb-false, eq-eqb, ne-eqb}
+use Rattle.file_law.specs.Answer.{gives, refuses, badLength, badContent, unless, both, every}
 use Rattle.file_law.specs.Reading.{lengthGood, streamIn, inputsIn, outputsIn, statesIn, sizesGood, blocksFor, streamLength, clearAt, zeroAt, nextsGood, rowsGood, contentGood, Within, Sizes, sizesIn}
-use Rattle.file_law.specs.Stepping.{shapeGood, shapeAnswer}
-use Rattle.file_law.proofs.Tests.{Whole, whole, shape, sizes-good}
+use Rattle.file_law.specs.Stepping.{shapeGood, Shape, shapeAnswer}
+use Rattle.file_law.proofs.Answers.{never}
+use Rattle.file_law.proofs.Tests.{Whole, whole, short-length, shape, shape-good, shape-long, within, sizes-good}
 
 -- the sizes that a file states
 pub record Stated (f : List ℕ) (k o n : ℕ) : Type 0 where
@@ -21,33 +22,41 @@ pub record Stated (f : List ℕ) (k o n : ℕ) : Type 0 where
 
 -- ---- from the tests to the answer
 
-pub too-short : (f : List ℕ) → length f < 512 → refuses unsound 0 ≡ shapeAnswer f
-unfolding shapeAnswer shapeGood
-too-short f h = simp (lt-leb _ _ h)
+pub too-short : (f : List ℕ) → length f < 512 → refuses badLength 0 ≡ shapeAnswer f
+unfolding shapeAnswer
+too-short f h = simp (short-length _ h)
 
-module _ {f : List ℕ} {k o n : ℕ} (s : Stated f k o n) (long : 512 ≤ length f) where
+-- no shape: the length still decides
+no-shape : (f : List ℕ) → shapeGood f ≡ false → unless (lengthGood (length f)) (refuses badLength 0) (refuses badContent 0) ≡ shapeAnswer f
+unfolding shapeAnswer
+no-shape f e = simp e
+
+module _ {f : List ℕ} {k o n : ℕ} (s : Stated f k o n) where
   same-sizes : sizesGood (inputsIn (streamIn f)) (outputsIn (streamIn f)) (statesIn (streamIn f)) ≡ sizesGood k o n
   same-sizes = rw (s .inputs, s .outputs, s .states)
 
   same-blocks : 512 * blocksFor (inputsIn (streamIn f)) (statesIn (streamIn f)) ≡ 512 * blocksFor k n
   same-blocks = rw (s .inputs, s .states)
 
-  pub odd-sizes : sizesGood k o n ≡ false → refuses unsound 0 ≡ shapeAnswer f
-  unfolding shapeAnswer shapeGood
-  odd-sizes e = simp (le-leb _ _ long, same-sizes ∙ e)
+  pub odd-sizes : sizesGood k o n ≡ false → unless (lengthGood (length f)) (refuses badLength 0) (refuses badContent 0) ≡ shapeAnswer f
+  unfolding shapeGood
+  odd-sizes e = no-shape f (simp (same-sizes ∙ e))
 
-  pub odd-length : sizesGood k o n ≡ true → (length f ≡ 512 * blocksFor k n → ⊥) → refuses unsound 0 ≡ shapeAnswer f
-  unfolding shapeAnswer shapeGood
-  odd-length e h = simp (le-leb _ _ long, same-sizes ∙ e, ne-eqb _ _ (λ x. h (x ∙ same-blocks)))
+  pub odd-length : sizesGood k o n ≡ true → (length f ≡ 512 * blocksFor k n → ⊥) → unless (lengthGood (length f)) (refuses badLength 0) (refuses badContent 0) ≡ shapeAnswer f
+  unfolding shapeGood
+  odd-length e h = no-shape f (simp (same-sizes ∙ e, ne-eqb _ _ (λ x. h (x ∙ same-blocks))))
 
   pub sound : sizesGood k o n ≡ true → length f ≡ 512 * blocksFor k n → gives (record { inputs = k; outputs = o; states = n }) ≡ shapeAnswer f
-  unfolding shapeAnswer shapeGood
-  sound e h = simp (s .inputs, s .outputs, s .states, le-leb _ _ long, same-sizes ∙ e, eq-eqb _ _ (h ∙ sym same-blocks))
+  unfolding shapeAnswer
+  sound e h =
+      let w : Shape f = record { long = omega arith; size = within _ _ _ (same-sizes ∙ e); exact = h ∙ sym same-blocks } in
+      simp (s .inputs, s .outputs, s .states, shape-long w, shape-good w)
 
 -- ---- from the answer to the tests
 
 -- a file of the right length for the sizes k, o and n that it states
 pub record Shaped (f : List ℕ) (k o n : ℕ) : Type 0 where
+  pub long : lengthGood (length f) ≡ true
   pub good : shapeGood f ≡ true
   pub stated : Stated f k o n
   pub size : Within k o n
@@ -55,25 +64,26 @@ pub record Shaped (f : List ℕ) (k o n : ℕ) : Type 0 where
 
 pub shaped : (f : List ℕ) {k o n : ℕ} → gives (record { inputs = k; outputs = o; states = n }) ≡ shapeAnswer f → Shaped f k o n
 unfolding shapeAnswer
-shaped f {k} {o} {n} e = by-test (shapeGood f) refl e
+shaped f {k} {o} {n} e = by-test (lengthGood (length f)) (shapeGood f) refl refl e
   where
-    by-test : (g : Bool) → shapeGood f ≡ g → gives (record { inputs = k; outputs = o; states = n }) ≡ unless g (refuses unsound 0) (gives (sizesIn (streamIn f))) → Shaped f k o n
-    by-test true g e =
+    by-test : (l g : Bool) → lengthGood (length f) ≡ l → shapeGood f ≡ g → gives (record { inputs = k; outputs = o; states = n }) ≡ unless l (refuses badLength 0) (unless g (refuses badContent 0) (gives (sizesIn (streamIn f)))) → Shaped f k o n
+    by-test true true l g e =
         let s = shape f g in
         let z : record { inputs = k; outputs = o; states = n } ≡ sizesIn (streamIn f) = cc in
         let hk : k ≡ inputsIn (streamIn f) = ap (λ (x : Sizes). x .inputs) z in
         let ho : o ≡ outputsIn (streamIn f) = ap (λ (x : Sizes). x .outputs) z in
         let hn : n ≡ statesIn (streamIn f) = ap (λ (x : Sizes). x .states) z in
-        record { good = g; stated = record { inputs = hk; outputs = ho; states = hn }; size = rw (hk, ho, hn) (s .size); exact = rw (hk, hn) (s .exact) }
-    by-test false g e = absurd (let z : _≡_ {A = ℕ} 0 1 = cc in omega arith)
+        record { long = l; good = g; stated = record { inputs = hk; outputs = ho; states = hn }; size = rw (hk, ho, hn) (s .size); exact = rw (hk, hn) (s .exact) }
+    by-test true false l g e = absurd (never e)
+    by-test false g₀ l g e = absurd (never e)
 
 pub unshaped : (f : List ℕ) {number at : ℕ} → refuses number at ≡ shapeAnswer f → shapeGood f ≡ false
 unfolding shapeAnswer
-unshaped f {number} {at} e = by-test (shapeGood f) refl e
+unshaped f {number} {at} e = by-test (shapeGood f) refl
   where
-    by-test : (g : Bool) → shapeGood f ≡ g → refuses number at ≡ unless g (refuses unsound 0) (gives (sizesIn (streamIn f))) → shapeGood f ≡ false
-    by-test false g e = g
-    by-test true g e = absurd (let z : _≡_ {A = ℕ} 0 1 = cc in omega arith)
+    by-test : (g : Bool) → shapeGood f ≡ g → shapeGood f ≡ false
+    by-test false g = g
+    by-test true g = absurd (never {a = sizesIn (streamIn f)} (sym (e ∙ simp (shape-long (shape f g), g))))
 
 -- ---- the content of whole blocks: the shape, and then the rows
 
@@ -109,7 +119,7 @@ module _ (f : List ℕ) (w : lengthGood (length f) ≡ true) where
       let o = outputsIn (streamIn f) in
       let n = statesIn (streamIn f) in
       both-assoc (sizesGood k o n) (eqb (blocksFor k n) (length f / 512)) (rest k o n)
-      ∙ simp (block-test (length f) (blocksFor k n) h, le-leb _ _ (h .some))
+      ∙ simp (block-test (length f) (blocksFor k n) h)
 
   pub content-unshaped : shapeGood f ≡ false → contentGood (streamIn f) (length f / 512) ≡ false
   content-unshaped e = content ∙ ap (λ (g : Bool). both g (rest (inputsIn (streamIn f)) (outputsIn (streamIn f)) (statesIn (streamIn f)))) e

@@ -4,6 +4,7 @@ use mathlib.Core.Path.{_≡_, refl, sym, ap, ap₂, _∙_}
 use mathlib.Core.Bool.{Bool, true, false}
 use Prim.Native.Nat.{ℕ, zero, suc, _+_, _-_, _≤_, _<_}
 use native.Mathlib.Omega.{arith}
+use native.Mathlib.Decide.{decLt}
 use native.Mathlib.Numerals.{add-one}
 use lib.ListN.{length, getD}
 use Rattle.file_law.specs.Answer.{unless, both, every, firstNot, listed}
@@ -95,6 +96,59 @@ pub one-met : (p : ℕ → Bool) (n i : ℕ) → firstNot p n i < i + n → ever
 unfolding every firstNot
 one-met p zero i h = absurd (omega arith)
 one-met p (suc n) i h = first-met p n i (p i) (one-met p n (suc i)) h
+
+-- ---- the first of which it does not hold
+
+pub true-false : {b : Bool} → b ≡ true → b ≡ false → ⊥
+true-false e f = let z : _≡_ {A = ℕ} 0 1 = cc in omega arith
+
+pub first-bound : (p : ℕ → Bool) (n i : ℕ) → firstNot p n i ≤ i + n
+unfolding firstNot
+first-bound p zero i = omega arith
+first-bound p (suc n) i = by-test (p i) (first-bound p n (suc i))
+  where
+    by-test : (b : Bool) → firstNot p n (suc i) ≤ suc i + n → unless b i (firstNot p n (suc i)) ≤ i + suc n
+    by-test true h = omega arith
+    by-test false h = omega arith
+
+-- the test holds of each before it
+pub first-before : (p : ℕ → Bool) (n i m : ℕ) → i ≤ m → m < firstNot p n i → p m ≡ true
+unfolding firstNot
+first-before p zero i m h l = absurd (omega arith)
+first-before p (suc n) i m h l = by-test (p i) refl (decLt i m) (first-before p n (suc i) m) l
+  where
+    by-test : (b : Bool) → p i ≡ b → Dec (i < m) → (suc i ≤ m → m < firstNot p n (suc i) → p m ≡ true) → m < unless b i (firstNot p n (suc i)) → p m ≡ true
+    by-test true e (yes g) ih l = ih g l
+    by-test true e (no g) ih l = let z : m ≡ i = omega arith in ap p z ∙ e
+    by-test false e d ih l = absurd (omega arith)
+
+-- .. and not of it
+pub first-fails : (p : ℕ → Bool) (n i : ℕ) → firstNot p n i < i + n → p (firstNot p n i) ≡ false
+unfolding firstNot
+first-fails p zero i h = absurd (omega arith)
+first-fails p (suc n) i h = by-test (p i) refl (first-fails p n (suc i)) h
+  where
+    by-test : (b : Bool) → p i ≡ b → (firstNot p n (suc i) < suc i + n → p (firstNot p n (suc i)) ≡ false)
+        → unless b i (firstNot p n (suc i)) < i + suc n → p (unless b i (firstNot p n (suc i))) ≡ false
+    by-test true e ih h = ih (omega arith)
+    by-test false e ih h = e
+
+-- where it does not hold of each, one is met
+pub some-fails : (p : ℕ → Bool) (n : ℕ) → every p n 0 ≡ false → firstNot p n 0 < n
+some-fails p n e = at (decLt (firstNot p n 0) n)
+  where
+    at : Dec (firstNot p n 0 < n) → firstNot p n 0 < n
+    at (yes h) = h
+    at (no h) = absurd (true-false (none-met p n 0 (omega (arith, first-bound p n 0))) e)
+
+-- no other number is the first
+pub first-is : (p : ℕ → Bool) (n place : ℕ) → place < n → ((m : ℕ) → m < place → p m ≡ true) → p place ≡ false → firstNot p n 0 ≡ place
+first-is p n place h before fails = at (decLt (firstNot p n 0) place) (decLt place (firstNot p n 0))
+  where
+    at : Dec (firstNot p n 0 < place) → Dec (place < firstNot p n 0) → firstNot p n 0 ≡ place
+    at (yes l) d = absurd (true-false (before (firstNot p n 0) l) (first-fails p n 0 (omega arith)))
+    at (no l) (yes g) = absurd (true-false (first-before p n 0 place (omega arith) g) fails)
+    at (no l) (no g) = omega arith
 
 pub length-listed : {A : Type 0} (g : ℕ → A) (n i : ℕ) → length (listed g n i) ≡ n
 unfolding listed

@@ -12,6 +12,8 @@ pub mod Words
 pub mod Joined
 pub mod Held
 pub mod Sound
+pub mod Broken
+pub mod BrokenSteps
 pub mod Runs
 pub mod Written
 pub mod Round

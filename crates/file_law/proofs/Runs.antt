@@ -13,7 +13,7 @@ use Rattle.file_law.specs.Answer.{Answer, gives, refuses, notInTable, un
 use Rattle.file_law.specs.Table.{Table, Fits, Running, nextOf, standing, clocks, tableRun}
 use Rattle.file_law.specs.Reading.{streamIn, inputsIn, outputsIn, statesIn, outputsAt, nextAt, Sizes, openAnswer, tableIn}
 use Rattle.file_law.specs.Stepping.{standsIn, standAnswer, moveAnswer, stepAnswer, lookAnswer, outputsAnswer, startIn, startAnswer, after, stepsFrom, runAnswers}
-use Rattle.file_law.proofs.Tests.{shape-good}
+use Rattle.file_law.proofs.Tests.{shape-good, shape-long}
 use Rattle.file_law.proofs.Held.{outputs-in, next-in}
 use Rattle.file_law.proofs.Sound.{Sound, sound, sound-fits}
 
@@ -89,7 +89,7 @@ module _ (f : List ℕ) (z : Sizes) (accepted : openAnswer f ≡ gives z) where
   unfolding outputsAnswer lookAnswer standAnswer
   sound-outputs state h =
       let g = in-states h in
-      simp (shape-good (s .shape), lt-ltb state (statesIn b) g, lt-ltb (outputsAt b (inputsIn b) state) (2 ^ outputsIn b) (s .rows .clear state g)) (ap gives (stands state g))
+      simp (shape-long (s .shape), shape-good (s .shape), lt-ltb state (statesIn b) g, lt-ltb (outputsAt b (inputsIn b) state) (2 ^ outputsIn b) (s .rows .clear state g)) (ap gives (stands state g))
 
   pub sound-step : (state input : ℕ) → state < z .states → input < 2 ^ z .inputs → stepAnswer f state input ≡ gives (standing (tableIn (streamIn f)) (nextOf (tableIn (streamIn f)) state input))
   unfolding stepAnswer moveAnswer standAnswer
@@ -99,6 +99,7 @@ module _ (f : List ℕ) (z : Sizes) (accepted : openAnswer f ≡ gives z) where
       let x = nextAt b (inputsIn b) state input in
       let l = s .rows .inside state input g j in
       simp (
+        shape-long (s .shape),
         shape-good (s .shape),
         lt-ltb state (statesIn b) g,
         lt-ltb input (2 ^ inputsIn b) j,
@@ -111,7 +112,7 @@ module _ (f : List ℕ) (z : Sizes) (accepted : openAnswer f ≡ gives z) where
   unfolding stepAnswer moveAnswer
   sound-refuses state input h i =
       let j = subst (λ (x : Sizes). 2 ^ x .inputs ≤ input) (s .sizes) i in
-      simp (shape-good (s .shape), lt-ltb state (statesIn b) (in-states h), le-ltb input (2 ^ inputsIn b) j)
+      simp (shape-long (s .shape), shape-good (s .shape), lt-ltb state (statesIn b) (in-states h), le-ltb input (2 ^ inputsIn b) j)
 
   next-below : (state input : ℕ) → state < z .states → input < 2 ^ z .inputs → nextOf t state input < z .states
   next-below state input h i =

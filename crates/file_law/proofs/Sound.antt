@@ -7,13 +7,13 @@ use mathlib.Core.Bool.{Bool, true, false}
 use mathlib.Core.List.{List}
 use lib.ListN.{length}
 use lib.Dec.{eqb}
-use borrow.Author.Tests.{ltb-true, eqb-true, lt-ltb, le-leb, eq-eqb}
-use Rattle.file_law.specs.Answer.{Answer, gives, refuses, unsound, unless, both, every, firstNot}
+use borrow.Author.Tests.{ltb-true, eqb-true, lt-ltb, eq-eqb}
+use Rattle.file_law.specs.Answer.{Answer, gives, refuses, unless, both, every}
 use Rattle.file_law.specs.Table.{Fits}
-use Rattle.file_law.specs.Reading.{mostBlocks, lengthGood, blockGood, streamIn, inputsIn, outputsIn, statesIn, streamLength, blocksFor, outputsAt, nextAt, sizesGood, clearAt, zeroAt, nextGood, nextsGood, rowsGood, contentGood, Sizes, sizesIn, blocksAnswer, openAnswer, tableIn}
+use Rattle.file_law.specs.Reading.{lengthGood, blockGood, streamIn, inputsIn, outputsIn, statesIn, streamLength, blocksFor, outputsAt, nextAt, sizesGood, clearAt, zeroAt, nextGood, nextsGood, rowsGood, contentGood, Sizes, sizesIn, blocksAnswer, openAnswer, tableIn}
 use Rattle.file_law.specs.Stepping.{Shape}
 use Rattle.file_law.proofs.Every.{both-left, both-right, every-at, every-all, length-listed}
-use Rattle.file_law.proofs.Tests.{within, sizes-good, whole, blocks-small}
+use Rattle.file_law.proofs.Tests.{within, sizes-good, whole, shape-long}
 use Rattle.file_law.proofs.Held.{rows-in, row-in, nexts-in}
 
 -- ---- the content of the stream
@@ -26,10 +26,10 @@ pub record Rows (b : ℕ → ℕ) (total k o n : ℕ) : Type 0 where
   pub inside : (state input : ℕ) → state < n → input < 2 ^ k → nextAt b k state input < n
 
 -- a test of each number below n, and of each from one on
-each-below : (p : ℕ → Bool) (n : ℕ) → every p n 0 ≡ true → (j : ℕ) → j < n → p j ≡ true
+pub each-below : (p : ℕ → Bool) (n : ℕ) → every p n 0 ≡ true → (j : ℕ) → j < n → p j ≡ true
 each-below p n e j h = let z : 0 + j ≡ j = omega arith in ap p (sym z) ∙ every-at p n 0 e j h
 
-all-below : (p : ℕ → Bool) (n : ℕ) → ((j : ℕ) → j < n → p j ≡ true) → every p n 0 ≡ true
+pub all-below : (p : ℕ → Bool) (n : ℕ) → ((j : ℕ) → j < n → p j ≡ true) → every p n 0 ≡ true
 all-below p n h = every-all p n 0 (λ j b. let z : 0 + j ≡ j = omega arith in ap p z ∙ h j b)
 
 each-from : (p : ℕ → Bool) (end i : ℕ) → every p (end - i) i ≡ true → (j : ℕ) → i ≤ j → j < end → p j ≡ true
@@ -48,7 +48,7 @@ module _ (b : ℕ → ℕ) (total k o n : ℕ) where
   abbrev nexted : Bool
   nexted = every (nextsGood b k n) n 0
 
-  rows : rowsGood b total k o n ≡ true → Rows b total k o n
+  pub rows : rowsGood b total k o n ≡ true → Rows b total k o n
   unfolding rowsGood
   rows e =
       let r = both-right counted (both cleared (both zeroed nexted)) e in
@@ -61,7 +61,7 @@ module _ (b : ℕ → ℕ) (total k o n : ℕ) where
         inside = λ s i hs hi. ltb-true (nextAt b k s i) n (each-below (nextGood b k n s) (2 ^ k) (each-below (nextsGood b k n) n x s hs) i hi);
       }
 
-  rows-good : Rows b total k o n → rowsGood b total k o n ≡ true
+  pub rows-good : Rows b total k o n → rowsGood b total k o n ≡ true
   unfolding rowsGood
   rows-good r =
       simp (
@@ -95,9 +95,9 @@ module _ (f : List ℕ) (z : Sizes) where
   pub sound : openAnswer f ≡ gives z → Sound f z
   unfolding openAnswer blocksAnswer contentGood
   sound e =
-      let p = tested (lengthGood (length f)) unsound 0 (blocksAnswer f total) e in
-      let q = tested (every (blockGood f total) total 0) unsound (firstNot (blockGood f total) total 0) (unless (contentGood b total) (refuses unsound 0) (gives (sizesIn b))) (p .1) in
-      let r = tested (contentGood b total) unsound 0 (gives (sizesIn b)) (q .1) in
+      let p = tested (lengthGood (length f)) _ _ (blocksAnswer f total) e in
+      let q = tested (every (blockGood f total) total 0) _ _ _ (p .1) in
+      let r = tested (contentGood b total) _ _ (gives (sizesIn b)) (q .1) in
       let w = whole (length f) (p .0) in
       let g = rows b total (inputsIn b) (outputsIn b) (statesIn b) (both-right (sizesGood (inputsIn b) (outputsIn b) (statesIn b)) _ (r .0)) in
       record {
@@ -118,17 +118,11 @@ module _ (f : List ℕ) (z : Sizes) where
   unfolding openAnswer blocksAnswer contentGood
   opens s =
       simp (
-        long,
+        shape-long (s .shape),
         all-below (blockGood f total) total (s .blocks),
         sizes-good (s .shape .size),
         rows-good b total (inputsIn b) (outputsIn b) (statesIn b) (s .rows),
       ) (ap gives (sym (s .sizes)))
-    where
-      long : lengthGood (length f) ≡ true
-      long =
-          let few = blocks-small (inputsIn b) (statesIn b) (s .shape .size .inputs) (s .shape .size .states) in
-          let c = s .rows .exact in
-          simp (le-leb 1 (length f) (omega arith), eq-eqb (length f % 512) 0 (omega (arith, s .shape .exact)), le-leb total mostBlocks (omega arith))
 
   pub sound-fits : openAnswer f ≡ gives z → Fits (tableIn (streamIn f))
   unfolding tableIn

@@ -1,19 +1,20 @@
 -- What the reader's tests say, as facts by name, and that what a sound shape names lies in the file.
 -- Assumes nothing.
-use mathlib.Core.Path.{_≡_, sym, ap, _∙_, subst}
+use mathlib.Core.Path.{_≡_, refl, sym, ap, _∙_, subst}
 use Prim.Native.Nat.{ℕ, _+_, _*_, _/_, _%_, _^_, _≤_, _<_}
 use native.Mathlib.Nat.{le-trans, le-of-lt, suc-mul, mul-le-mul-left, mul-le-mul-right, mul-comm, mul-assoc}
 use native.Mathlib.Omega.{arith}
-use mathlib.Core.Bool.{true}
+use mathlib.Core.Bool.{Bool, true, false}
 use mathlib.Core.List.{List}
-use lib.ListN.{length, getD}
+use lib.ListN.{length, getD, take, drop}
 use lib.Dec.{leb, eqb}
 use lib.Pow.{pow-mono}
 use borrow.Author.Tests.{leb-true, eqb-true, le-leb, eq-eqb}
+use Rattle.crc_law.specs.Crc.{crcOf}
 use Rattle.file_law.specs.Answer.{both}
-use Rattle.file_law.specs.Bytes.{word2, bytesOf}
+use Rattle.file_law.specs.Bytes.{word2, word4, bytesOf}
 use Rattle.file_law.specs.Table.{mostInputs, mostOutputs, mostStates}
-use Rattle.file_law.specs.Reading.{mostBlocks, lengthGood, place, streamIn, inputsIn, outputsIn, statesIn, rowLength, rowAt, streamLength, blocksFor, sizesGood, Within}
+use Rattle.file_law.specs.Reading.{mostBlocks, lengthGood, numberGood, checkGood, blockGood, place, streamIn, inputsIn, outputsIn, statesIn, rowLength, rowAt, streamLength, blocksFor, sizesGood, Within}
 use Rattle.file_law.specs.Stepping.{shapeGood, Shape}
 use Rattle.file_law.proofs.Every.{both-left, both-right}
 
@@ -44,22 +45,72 @@ whole n e =
     let b = eqb-true (n % 512) 0 (both-left (eqb (n % 512) 0) _ r) in
     record { some = omega arith; whole = b; few = leb-true (n / 512) mostBlocks (both-right (eqb (n % 512) 0) _ r) }
 
+pub length-good : {n : ℕ} → Whole n → lengthGood n ≡ true
+length-good {n} w = simp (le-leb 1 n (omega (arith, w .some)), eq-eqb (n % 512) 0 (w .whole), le-leb (n / 512) mostBlocks (w .few))
+
+pub short-length : (bytes : ℕ) → bytes < 512 → lengthGood bytes ≡ false
+short-length n h = by-test (lengthGood n) refl
+  where
+    by-test : (t : Bool) → lengthGood n ≡ t → lengthGood n ≡ false
+    by-test true e = absurd (omega (arith, whole n e .some))
+    by-test false e = e
+
+-- ---- a block
+
+pub record Numbered (f : List ℕ) (total n : ℕ) : Type 0 where
+  pub number : word2 (bytesOf f) (512 * n) ≡ n
+  pub count : word2 (bytesOf f) (512 * n + 2) ≡ total
+
+abbrev pub Checked : List ℕ → ℕ → Type 0
+Checked f n = word4 (bytesOf f) (512 * n + 508) ≡ crcOf (take 508 (drop (512 * n) f))
+
+-- the right number and total, and the right check
+pub record Block (f : List ℕ) (total n : ℕ) : Type 0 where
+  pub numbered : Numbered f total n
+  pub checked : Checked f n
+
+module _ (f : List ℕ) (total n : ℕ) where
+  pub numbered : numberGood f total n ≡ true → Numbered f total n
+  unfolding numberGood
+  numbered e =
+      let x = eqb (word2 (bytesOf f) (512 * n)) n in
+      let y = eqb (word2 (bytesOf f) (512 * n + 2)) total in
+      record { number = eqb-true _ _ (both-left x y e); count = eqb-true _ _ (both-right x y e) }
+
+  pub number-good : Numbered f total n → numberGood f total n ≡ true
+  unfolding numberGood
+  number-good b = simp (eq-eqb _ _ (b .number), eq-eqb _ _ (b .count))
+
+  pub checked : checkGood f n ≡ true → Checked f n
+  unfolding checkGood
+  checked e = eqb-true _ _ e
+
+  pub check-good : Checked f n → checkGood f n ≡ true
+  unfolding checkGood
+  check-good e = eq-eqb _ _ e
+
+  pub block : blockGood f total n ≡ true → Block f total n
+  unfolding blockGood
+  block e = record { numbered = numbered (both-left (numberGood f total n) (checkGood f n) e); checked = checked (both-right (numberGood f total n) (checkGood f n) e) }
+
+  pub block-good : Block f total n → blockGood f total n ≡ true
+  unfolding blockGood
+  block-good b = simp (number-good (b .numbered), check-good (b .checked))
+
+-- ---- the shape
+
 pub shape : (f : List ℕ) → shapeGood f ≡ true → Shape f
 unfolding shapeGood
 shape f e =
     let b = streamIn f in
     let z = sizesGood (inputsIn b) (outputsIn b) (statesIn b) in
     let x = eqb (length f) (512 * blocksFor (inputsIn b) (statesIn b)) in
-    let r = both-right (leb 512 (length f)) (both z x) e in
-    record {
-      long = leb-true 512 (length f) (both-left (leb 512 (length f)) _ e);
-      size = within (inputsIn b) (outputsIn b) (statesIn b) (both-left z x r);
-      exact = eqb-true _ _ (both-right z x r);
-    }
+    let l : length f ≡ 512 * blocksFor (inputsIn b) (statesIn b) = eqb-true _ _ (both-right z x e) in
+    record { long = omega arith; size = within (inputsIn b) (outputsIn b) (statesIn b) (both-left z x e); exact = l }
 
 pub shape-good : {f : List ℕ} → Shape f → shapeGood f ≡ true
 unfolding shapeGood
-shape-good {f} s = simp (le-leb 512 (length f) (s .long), sizes-good (s .size), eq-eqb _ _ (s .exact))
+shape-good {f} s = simp (sizes-good (s .size), eq-eqb _ _ (s .exact))
 
 -- ---- sizes bound what is multiplied
 
@@ -76,6 +127,12 @@ row-small k s n hk hn hs = le-trans (mul-le-mul-right (rowLength k) (le-of-lt hs
 
 pub blocks-small : (k n : ℕ) → k ≤ mostInputs → n ≤ mostStates → blocksFor k n ≤ mostBlocks
 blocks-small k n hk hn = omega (arith, rows-small k n hk hn)
+
+-- what the sizes call for is a good length
+pub shape-long : {f : List ℕ} → Shape f → lengthGood (length f) ≡ true
+shape-long {f} s =
+    let few = blocks-small (inputsIn (streamIn f)) (statesIn (streamIn f)) (s .size .inputs) (s .size .states) in
+    length-good (record { some = s .long; whole = omega (arith, s .exact); few = omega (arith, s .exact, few) })
 
 -- ---- places in the file
 

@@ -8,12 +8,12 @@ use mathlib.Core.Bool.{true}
 use mathlib.Core.List.{List, [], _++_, append-assoc, append-nil}
 use lib.ListN.{length, getD, take, drop, List·getD-append, List·getD-eq-default}
 use lib.Seq.{getD-drop, drop-at, drop-drop, take-at}
-use borrow.Author.Tests.{eq-eqb}
 use Rattle.crc_law.specs.Crc.{crcOf}
 use Rattle.crc_law.proofs.Range.{crc-lt}
 use Rattle.file_law.specs.Bytes.{low2, low4, bytesOf}
 use Rattle.file_law.specs.File.{pieceOf, bodyOf, blockOf, blocks, blockCount, fileOf}
 use Rattle.file_law.specs.Reading.{blockGood, place, streamIn}
+use Rattle.file_law.proofs.Tests.{block-good}
 use Rattle.file_law.proofs.Blocks.{length-piece, piece-at, length-body, length-blocks}
 use Rattle.file_law.proofs.Words.{word2-ahead, word4-ahead}
 
@@ -90,14 +90,16 @@ module _ (s : List ℕ) where
 
     -- number and total are two bytes each
     pub good : total ≤ 65535 → blockGood f total n ≡ true
-    unfolding blockGood blockOf bodyOf
+    unfolding blockOf bodyOf
     good few =
         let x = (pieceOf rest ++ low4 (crcOf body)) ++ y in
-        simp (
-          eq-eqb _ _ (word2-ahead f (512 * n) n (low2 total ++ x) from (omega arith)),
-          eq-eqb _ _ (word2-ahead f (512 * n + 2) total x (sym (drop-drop 2 (512 * n) f) ∙ ap (drop 2) from) (omega arith)),
-          eq-eqb _ _ (word4-ahead f (512 * n + 508) (crcOf body) y check (crc-lt body) ∙ ap crcOf (sym over)),
-        )
+        block-good f total n (record {
+          numbered = record {
+            number = word2-ahead f (512 * n) n (low2 total ++ x) from (omega arith);
+            count = word2-ahead f (512 * n + 2) total x (sym (drop-drop 2 (512 * n) f) ∙ ap (drop 2) from) (omega arith);
+          };
+          checked = word4-ahead f (512 * n + 508) (crcOf body) y check (crc-lt body) ∙ ap crcOf (sym over);
+        })
 
   -- no bound on the stream is needed
   pub stream-back : streamIn f ≡ bytesOf s

@@ -9,9 +9,21 @@ pub data Answer (A : Type 0) : Type 0 where
   gives : A → Answer A
   refuses : ℕ → ℕ → Answer A
 
--- F5, F7: a table file that is not sound
-abbrev pub unsound : ℕ
-unsound = 13
+-- F5: what is broken in a table file: its length
+abbrev pub badLength : ℕ
+badLength = 21
+
+-- .. the number or the total of a block
+abbrev pub badNumber : ℕ
+badNumber = 22
+
+-- .. the check of a block
+abbrev pub badCheck : ℕ
+badCheck = 23
+
+-- .. or all else
+abbrev pub badContent : ℕ
+badContent = 24
 
 -- F7: a state or an input that the table does not have
 abbrev pub notInTable : ℕ

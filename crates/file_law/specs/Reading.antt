@@ -6,7 +6,7 @@ use mathlib.Core.List.{List}
 use lib.Dec.{leb, ltb, eqb}
 use lib.ListN.{length, getD, take, drop}
 use Rattle.crc_law.specs.Crc.{crcOf}
-use Rattle.file_law.specs.Answer.{Answer, gives, refuses, unsound, unless, both, every, firstNot, listed}
+use Rattle.file_law.specs.Answer.{Answer, gives, refuses, badLength, badNumber, badCheck, badContent, unless, both, every, firstNot, listed}
 use Rattle.file_law.specs.Bytes.{word2, word4, bytesOf}
 use Rattle.file_law.specs.Table.{mostInputs, mostOutputs, mostStates, Row, Table}
 use Rattle.file_law.specs.File.{blockCount}
@@ -19,12 +19,20 @@ mostBlocks = 67
 abbrev pub lengthGood : ℕ → Bool
 lengthGood bytes = both (leb 1 bytes) (both (eqb (bytes % 512) 0) (leb (bytes / 512) mostBlocks))
 
--- F5: block n of the file has the right number, total and check
+-- F5: block n of the file has the right number and total
+unfoldable pub numberGood : List ℕ → ℕ → ℕ → Bool
+numberGood f total n = both (eqb (word2 (bytesOf f) (512 * n)) n) (eqb (word2 (bytesOf f) (512 * n + 2)) total)
+
+-- F5: .. and the right check
+unfoldable pub checkGood : List ℕ → ℕ → Bool
+checkGood f n = eqb (word4 (bytesOf f) (512 * n + 508)) (crcOf (take 508 (drop (512 * n) f)))
+
 unfoldable pub blockGood : List ℕ → ℕ → ℕ → Bool
-blockGood f total n =
-    both (eqb (word2 (bytesOf f) (512 * n)) n)
-    (both (eqb (word2 (bytesOf f) (512 * n + 2)) total)
-    (eqb (word4 (bytesOf f) (512 * n + 508)) (crcOf (take 508 (drop (512 * n) f)))))
+blockGood f total n = both (numberGood f total n) (checkGood f n)
+
+-- F5: what is broken in a block that is not good
+unfoldable pub blockFault : List ℕ → ℕ → ℕ → ℕ
+blockFault f total n = unless (numberGood f total n) badNumber badCheck
 
 -- where byte j of the stream stands: in its block's piece, past number and total
 abbrev pub place : ℕ → ℕ
@@ -114,13 +122,13 @@ sizesIn b = record { inputs = inputsIn b; outputs = outputsIn b; states = states
 -- the first block that is not good decides, and then the content
 unfoldable pub blocksAnswer : List ℕ → ℕ → Answer Sizes
 blocksAnswer f total =
-    unless (every (blockGood f total) total 0) (refuses unsound (firstNot (blockGood f total) total 0))
-    (unless (contentGood (streamIn f) total) (refuses unsound 0)
+    unless (every (blockGood f total) total 0) (refuses (blockFault f total (firstNot (blockGood f total) total 0)) (firstNot (blockGood f total) total 0))
+    (unless (contentGood (streamIn f) total) (refuses badContent 0)
     (gives (sizesIn (streamIn f))))
 
 -- F5: opening; all that is not refused is accepted
 unfoldable pub openAnswer : List ℕ → Answer Sizes
-openAnswer f = unless (lengthGood (length f)) (refuses unsound 0) (blocksAnswer f (length f / 512))
+openAnswer f = unless (lengthGood (length f)) (refuses badLength 0) (blocksAnswer f (length f / 512))
 
 -- ---- the table that a stream holds
 

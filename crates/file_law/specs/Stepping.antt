@@ -4,18 +4,17 @@ use mathlib.Core.Path.{_≡_}
 use Prim.Native.Nat.{ℕ, _+_, _*_, _^_, _≤_}
 use mathlib.Core.Bool.{Bool}
 use mathlib.Core.List.{List, [], _∷_}
-use lib.Dec.{leb, ltb, eqb}
+use lib.Dec.{ltb, eqb}
 use lib.ListN.{length}
-use Rattle.file_law.specs.Answer.{Answer, gives, refuses, unsound, notInTable, unless, both}
+use Rattle.file_law.specs.Answer.{Answer, gives, refuses, badLength, badContent, notInTable, unless, both}
 use Rattle.file_law.specs.Table.{Running}
-use Rattle.file_law.specs.Reading.{streamIn, inputsIn, outputsIn, statesIn, blocksFor, sizesGood, Within, Sizes, sizesIn, outputsAt, nextAt, clearAt, openAnswer}
+use Rattle.file_law.specs.Reading.{lengthGood, streamIn, inputsIn, outputsIn, statesIn, blocksFor, sizesGood, Within, Sizes, sizesIn, outputsAt, nextAt, clearAt, openAnswer}
 
--- F7: length and sizes
+-- F7: sizes, and the length that they call for
 unfoldable pub shapeGood : List ℕ → Bool
 shapeGood f =
-    both (leb 512 (length f))
-    (both (sizesGood (inputsIn (streamIn f)) (outputsIn (streamIn f)) (statesIn (streamIn f)))
-    (eqb (length f) (512 * blocksFor (inputsIn (streamIn f)) (statesIn (streamIn f)))))
+    both (sizesGood (inputsIn (streamIn f)) (outputsIn (streamIn f)) (statesIn (streamIn f)))
+    (eqb (length f) (512 * blocksFor (inputsIn (streamIn f)) (statesIn (streamIn f))))
 
 -- the same as facts, by name
 pub record Shape (f : List ℕ) : Type 0 where
@@ -28,8 +27,12 @@ pub record Sized (f : List ℕ) (k o n : ℕ) : Type 0 where
   pub size : Within k o n
   pub exact : length f ≡ 512 * blocksFor k n
 
+-- F7: the length, then the shape, and then what is asked of the file
+abbrev pub shapeFirst : {A : Type 0} → List ℕ → Answer A → Answer A
+shapeFirst f next = unless (lengthGood (length f)) (refuses badLength 0) (unless (shapeGood f) (refuses badContent 0) next)
+
 unfoldable pub shapeAnswer : List ℕ → Answer Sizes
-shapeAnswer f = unless (shapeGood f) (refuses unsound 0) (gives (sizesIn (streamIn f)))
+shapeAnswer f = shapeFirst f (gives (sizesIn (streamIn f)))
 
 -- the record that stands in a state of a stream of k inputs
 abbrev pub standsIn : (ℕ → ℕ) → ℕ → ℕ → Running
@@ -37,19 +40,19 @@ standsIn b k state = record { state = state; outputs = outputsAt b k state }
 
 -- F7: a state with its outputs, unless an undeclared bit is set
 unfoldable pub standAnswer : (ℕ → ℕ) → ℕ → ℕ → ℕ → Answer Running
-standAnswer b k o state = unless (clearAt b k o state) (refuses unsound 0) (gives (standsIn b k state))
+standAnswer b k o state = unless (clearAt b k o state) (refuses badContent 0) (gives (standsIn b k state))
 
 -- F7: the state and the input, then the next state
 unfoldable pub moveAnswer : (ℕ → ℕ) → ℕ → ℕ → ℕ → ℕ → ℕ → Answer Running
 moveAnswer b k o n state input =
     unless (both (ltb state n) (ltb input (2 ^ k))) (refuses notInTable 0)
-    (unless (ltb (nextAt b k state input) n) (refuses unsound 0)
+    (unless (ltb (nextAt b k state input) n) (refuses badContent 0)
     (standAnswer b k o (nextAt b k state input)))
 
 -- F7: a step; no check is computed
 unfoldable pub stepAnswer : List ℕ → ℕ → ℕ → Answer Running
 stepAnswer f state input =
-    unless (shapeGood f) (refuses unsound 0)
+    shapeFirst f
     (moveAnswer (streamIn f) (inputsIn (streamIn f)) (outputsIn (streamIn f)) (statesIn (streamIn f)) state input)
 
 -- F8: the outputs of a state, refused as a step is, without the input
@@ -58,7 +61,7 @@ lookAnswer b k o n state = unless (ltb state n) (refuses notInTable 0) (standAns
 
 unfoldable pub outputsAnswer : List ℕ → ℕ → Answer Running
 outputsAnswer f state =
-    unless (shapeGood f) (refuses unsound 0)
+    shapeFirst f
     (lookAnswer (streamIn f) (inputsIn (streamIn f)) (outputsIn (streamIn f)) (statesIn (streamIn f)) state)
 
 -- F6: opening stands at state 0 with its outputs

@@ -1,7 +1,7 @@
 -- Writing and reading have one answer, and one buffer, for whatever is lent.
 -- Assumes nothing.
 use mathlib.Core.Path.{_≡_, refl, sym, ap, _∙_, subst}
-use mathlib.Core.Logic.{_⊎_, inl, inr}
+use mathlib.Core.Logic.{_↔_, _⊎_, inl, inr}
 use mathlib.Core.List.{List, _++_, append-assoc}
 use Prim.Native.Nat.{ℕ, suc, _/_, _<_}
 use native.Mathlib.Omega.{arith}
@@ -11,7 +11,8 @@ use lib.Seq.{take-take}
 use Rattle.file_law.specs.Answer.{Answer, gives, refuses}
 use Rattle.file_law.specs.Table.{Table}
 use Rattle.file_law.specs.Reading.{Sizes, openAnswer}
-use Rattle.kiss_law.specs.Kiss.{laid, Wired, KissWrites, Written, Continues, Stops, tableFile, KissReads}
+use Rattle.file_law.proofs.Answers.{never}
+use Rattle.kiss_law.specs.Kiss.{noText, shortBuffer, laid, Wired, KissWrites, Written, Continues, Stops, tableFile, KissReads}
 use Rattle.kiss_law.specs.Kiss as kiss
 use Rattle.kiss_law.proofs.Unique.{one-table}
 
@@ -33,25 +34,35 @@ module _ (file buffer : List ℕ) where
   not-wired p q w (inr e) = let s = ap (λ (x : Sizes). x .outputs) (one-sizes p q) in absurd (omega (arith, w .outputs))
 
   pub one-written : {a b : Answer ℕ} {x y : List ℕ} → KissWrites file buffer a x → KissWrites file buffer b y → _≡_ {A = Ends} (a, x) (b, y)
-  one-written (kiss.KissWrites.thirteen {number = n} {place = e} p) (kiss.KissWrites.thirteen {number = m} {place = d} q) =
+  one-written (kiss.KissWrites.broken {number = n} {place = e} p) (kiss.KissWrites.broken {number = m} {place = d} q) =
       let r : n ≡ m = cc in
       let s : e ≡ d = cc in
       λ i. (refuses (r i) (s i), buffer)
-  one-written (kiss.KissWrites.thirteen p) (kiss.KissWrites.fifteen q h) = not-both q p
-  one-written (kiss.KissWrites.thirteen p) (kiss.KissWrites.twelve q w h) = not-both q p
-  one-written (kiss.KissWrites.thirteen p) (kiss.KissWrites.made q w h) = not-both q p
-  one-written (kiss.KissWrites.fifteen p h) (kiss.KissWrites.thirteen q) = not-both p q
+  one-written (kiss.KissWrites.broken p) (kiss.KissWrites.fifteen q h) = not-both q p
+  one-written (kiss.KissWrites.broken p) (kiss.KissWrites.twelve q w h) = not-both q p
+  one-written (kiss.KissWrites.broken p) (kiss.KissWrites.made q w h) = not-both q p
+  one-written (kiss.KissWrites.fifteen p h) (kiss.KissWrites.broken q) = not-both p q
   one-written (kiss.KissWrites.fifteen p h) (kiss.KissWrites.fifteen q g) = refl
   one-written (kiss.KissWrites.fifteen p h) (kiss.KissWrites.twelve q w g) = not-wired q p w h
   one-written (kiss.KissWrites.fifteen p h) (kiss.KissWrites.made q w g) = not-wired q p w h
-  one-written (kiss.KissWrites.twelve p w h) (kiss.KissWrites.thirteen q) = not-both p q
+  one-written (kiss.KissWrites.twelve p w h) (kiss.KissWrites.broken q) = not-both p q
   one-written (kiss.KissWrites.twelve p w h) (kiss.KissWrites.fifteen q g) = not-wired p q w g
   one-written (kiss.KissWrites.twelve p w h) (kiss.KissWrites.twelve q v g) = refl
   one-written (kiss.KissWrites.twelve p w h) (kiss.KissWrites.made q v g) = absurd (omega arith)
-  one-written (kiss.KissWrites.made p w h) (kiss.KissWrites.thirteen q) = not-both p q
+  one-written (kiss.KissWrites.made p w h) (kiss.KissWrites.broken q) = not-both p q
   one-written (kiss.KissWrites.made p w h) (kiss.KissWrites.fifteen q g) = not-wired p q w g
   one-written (kiss.KissWrites.made p w h) (kiss.KissWrites.twelve q v g) = absurd (omega arith)
   one-written (kiss.KissWrites.made p w h) (kiss.KissWrites.made q v g) = refl
+
+  -- what is broken in the file is told as opening tells it, and nothing else is told with such a number
+  pub passed-on : (number place : ℕ) → noText < number → KissWrites file buffer (refuses number place) buffer ↔ (openAnswer file ≡ refuses number place)
+  passed-on number place h = ((λ w. of w refl), (λ e. kiss.KissWrites.broken e))
+    where
+      of : {a : Answer ℕ} {x : List ℕ} → KissWrites file buffer a x → a ≡ refuses number place → openAnswer file ≡ refuses number place
+      of (kiss.KissWrites.broken {number = m} {place = p} q) e = q ∙ (let r : m ≡ number = cc in let s : p ≡ place = cc in λ i. refuses (r i) (s i))
+      of (kiss.KissWrites.fifteen q w) e = let r : noText ≡ number = cc in absurd (omega arith)
+      of (kiss.KissWrites.twelve q w l) e = let r : shortBuffer ≡ number = cc in absurd (omega arith)
+      of (kiss.KissWrites.made q w l) e = absurd (never e)
 
 -- ---- reading
 

@@ -34,10 +34,10 @@ pub record Wired (z : Sizes) : Type 0 where
   pub inputs : 1 ≤ z .inputs
   pub outputs : 1 ≤ z .outputs
 
--- "An unsound file is 13, then a machine with no inputs or no outputs is refusal 15 at 0 when writing; a short buffer, either way, is 12 and comes last."
+-- "An unsound file" is refused as opening refuses it (T-05: "Opening, stepping, KISS and the C calls all pass these on"), "then a machine with no inputs or no outputs is refusal 15 at 0 when writing; a short buffer, either way, is 12 and comes last."
 -- "A refusal changes no byte": what the file, and the buffer as it was, come to; the answer is the text's length
 pub data KissWrites (file buffer : List ℕ) : Answer ℕ → List ℕ → Type 0 where
-  thirteen : {number place : ℕ} → openAnswer file ≡ refuses number place → KissWrites file buffer (refuses number place) buffer
+  broken : {number place : ℕ} → openAnswer file ≡ refuses number place → KissWrites file buffer (refuses number place) buffer
   fifteen : {z : Sizes} → openAnswer file ≡ gives z → (z .inputs ≡ 0) ⊎ (z .outputs ≡ 0) → KissWrites file buffer (refuses noText 0) buffer
   twelve : {z : Sizes} → openAnswer file ≡ gives z → Wired z → length buffer < length (textIn file) → KissWrites file buffer (refuses shortBuffer 0) buffer
   made : {z : Sizes} → openAnswer file ≡ gives z → Wired z → length (textIn file) ≤ length buffer

@@ -15,10 +15,10 @@ use Rattle.file_law.specs.Answer.{Answer, gives, refuses}
 use Rattle.file_law.specs.Bytes.{bytesOf, word2}
 use Rattle.file_law.specs.Table.{mostStates, Table, Fits, Running, clocks, tableRun}
 use Rattle.file_law.specs.File.{streamOf, fileOf}
-use Rattle.file_law.specs.Reading.{mostBlocks, Sizes, blockGood, openAnswer}
+use Rattle.file_law.specs.Reading.{mostBlocks, Sizes, openAnswer}
 use Rattle.file_law.specs.Stepping.{stepAnswer, startAnswer, after, runAnswers, outputsCode}
 use Rattle.file_law.proofs.Every.{both-left, both-right}
-use Rattle.file_law.proofs.Tests.{blocks-small}
+use Rattle.file_law.proofs.Tests.{block, blocks-small}
 use Rattle.file_law.proofs.Sound.{Sound, sound}
 use Rattle.file_law.proofs.Round.{accepted, no-shared-file, written-runs}
 use Rattle.meaning.specs.Declared.{Source}
@@ -123,11 +123,10 @@ blink-for-all f = one-for-all f (fileOf (streamOf blink))
 
 -- a block of zeros has a total of no blocks
 zeros-refused : (f : List ℕ) (z : Sizes) → ((i : ℕ) → getD f i 0 ≡ 0) → ¬ (openAnswer f ≡ gives z)
-unfolding blockGood word2
+unfolding word2
 zeros-refused f z none e =
     let s : Sound f z = sound f z e in
-    let b = s .blocks 0 (omega (arith, s .shape .long)) in
-    let total = eqb-true (word2 (bytesOf f) 2) (length f / 512) (both-left _ _ (both-right (eqb (word2 (bytesOf f) 0) 0) _ b)) in
+    let total : word2 (bytesOf f) 2 ≡ length f / 512 = block f (length f / 512) 0 (s .blocks 0 (omega (arith, s .shape .long))) .numbered .count in
     omega (arith, total, none 2, none 3, s .shape .long)
 
 pub writes-nothing : (f : Compiler) → ((l : Lent) (m : Made) → f l .answer ≡ gives m → f l .buffer ≡ l .buffer) → ¬ Keeps f

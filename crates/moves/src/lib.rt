@@ -4,10 +4,8 @@ ghost use Prim.Native.Nat.{_<_};
 ghost use Rattle.file_law.specs.Reading.{streamIn};
 ghost use Rattle.file_law.specs.Stepping.{Sized, standAnswer, moveAnswer, lookAnswer};
 ghost use Rattle.moves.specs.Meaning.{meaning};
+use stream::broken;
 use stream::sizes;
-
-// "table file not sound"
-const UNSOUND: u32 = 13;
 
 // "state or input not in the table"
 const NOT_IN_TABLE: u32 = 14;
@@ -31,7 +29,7 @@ fn stand_in(file: &[u8], k: u32, o: u32, n: u32, state: u32) -> Stands
 {
     let outputs = stream::outputs_at(file, k, state);
     if sizes::pow2(o) <= outputs {
-        return refused(UNSOUND);
+        return refused(broken::BAD_CONTENT);
     }
     Stands::At { state, outputs }
 }
@@ -50,7 +48,7 @@ pub fn move_in(file: &[u8], k: u32, o: u32, n: u32, state: u32, input: u32) -> S
     }
     let next = stream::next_low(file, k, state, input);
     if n <= next {
-        return refused(UNSOUND);
+        return refused(broken::BAD_CONTENT);
     }
     let stands = stand_in(file, k, o, n, next);
     let Stands::At {
@@ -58,10 +56,10 @@ pub fn move_in(file: &[u8], k: u32, o: u32, n: u32, state: u32, input: u32) -> S
         outputs: _,
     } = stands
     else {
-        return refused(UNSOUND);
+        return refused(broken::BAD_CONTENT);
     };
     if stream::next_at(file, k, state, input) != next {
-        return refused(UNSOUND);
+        return refused(broken::BAD_CONTENT);
     }
     stands
 }

@@ -3,10 +3,11 @@ ghost use mathlib.Core.Path.{_≡_};
 ghost use Prim.Native.Nat.{_/_};
 ghost use mathlib.Core.Bool.{true};
 ghost use lib.ListN.{length};
-ghost use Rattle.file_law.specs.Answer.{gives, refuses, unsound, unless};
+ghost use Rattle.file_law.specs.Answer.{gives, refuses, badLength, badContent, unless};
 ghost use Rattle.file_law.specs.Reading.{lengthGood, streamIn, contentGood, sizesIn, openAnswer};
 ghost use Rattle.file_law.specs.Stepping.{shapeAnswer};
 ghost use Rattle.reader.specs.Meaning.{meaning};
+use stream::broken;
 use stream::bytes;
 use stream::sizes;
 
@@ -26,10 +27,20 @@ pub enum Opened {
     },
 }
 
-fn refused(place: u32) -> Opened
-    ensures { λ r. ⌜ r ≡ Opened.Refused 13 place ⌝ }
+fn refused(number: u32, place: u32) -> Opened
+    ensures { λ r. ⌜ r ≡ Opened.Refused number place ⌝ }
 {
-    Opened::Refused { number: 13, place }
+    Opened::Refused { number, place }
+}
+
+// Why a file without a sound shape is refused. The length is tested here and not by every step: a sound shape has a good one.
+fn misshapen(len: usize) -> Opened
+    ensures { λ r. ⌜ meaning r ≡ unless (lengthGood len) (refuses badLength 0) (refuses badContent 0) ⌝ }
+{
+    if !blocks::length_good(len) {
+        return refused(broken::BAD_LENGTH, 0);
+    }
+    refused(broken::BAD_CONTENT, 0)
 }
 
 // The sizes that a file of the right length states; no check is computed. What a step begins with.
@@ -38,16 +49,16 @@ pub fn shape(file: &[u8]) -> Opened
 {
     let len = file.len();
     if len < 512 {
-        return refused(0);
+        return refused(broken::BAD_LENGTH, 0);
     }
     let k = bytes::byte(file, 4);
     let o = bytes::byte(file, 5);
     let n = bytes::word(file, 6);
     if !sizes::sizes_good(k, o, n) {
-        return refused(0);
+        return misshapen(len);
     }
     if len != 512 * sizes::blocks_for(k, n) as usize {
-        return refused(0);
+        return misshapen(len);
     }
     Opened::Sound {
         inputs: k,
@@ -59,7 +70,7 @@ pub fn shape(file: &[u8]) -> Opened
 // The sizes that a file of whole, good blocks states, if all of its content is sound.
 fn content(file: &[u8]) -> Opened
     requires { ⌜ lengthGood (length (now file)) ≡ true ⌝ }
-    ensures { λ r. ⌜ meaning r ≡ unless (contentGood (streamIn (now (file .entry))) (length (now (file .entry)) / 512)) (refuses unsound 0) (gives (sizesIn (streamIn (now (file .entry))))) ⌝ }
+    ensures { λ r. ⌜ meaning r ≡ unless (contentGood (streamIn (now (file .entry))) (length (now (file .entry)) / 512)) (refuses badContent 0) (gives (sizesIn (streamIn (now (file .entry))))) ⌝ }
 {
     let shaped = shape(file);
     let Opened::Sound {
@@ -68,10 +79,10 @@ fn content(file: &[u8]) -> Opened
         states,
     } = shaped
     else {
-        return refused(0);
+        return refused(broken::BAD_CONTENT, 0);
     };
     if !rows::rows_good(file, inputs, outputs, states) {
-        return refused(0);
+        return refused(broken::BAD_CONTENT, 0);
     }
     Opened::Sound {
         inputs,
@@ -85,12 +96,12 @@ pub fn open(file: &[u8]) -> Opened
     ensures { λ r. ⌜ meaning r ≡ openAnswer (now (file .entry)) ⌝ }
 {
     if !blocks::length_good(file.len()) {
-        return refused(0);
+        return refused(broken::BAD_LENGTH, 0);
     }
     let total = (file.len() / 512) as u32;
     let bad = blocks::first_bad(file, total);
     if bad < total {
-        return refused(bad);
+        return refused(blocks::fault(file, total, bad), bad);
     }
     content(file)
 }

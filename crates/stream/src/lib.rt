@@ -5,6 +5,7 @@ ghost use lib.ListN.{length};
 ghost use Rattle.file_law.specs.Table.{mostInputs, mostStates};
 ghost use Rattle.file_law.specs.Reading.{place, streamIn, rowAt, outputsAt, nextAt};
 
+pub mod broken;
 pub mod bytes;
 pub mod sizes;
 

@@ -111,5 +111,6 @@ Prints one line: states, blocks and bytes.
 pub const EXPLAIN: &str = "\
 usage: windnadel explain N
 
-Says in plain words what refusal N (1 to 15) means, what would be right, and gives an example.
+Says in plain words what refusal N (1 to 12, 14, 15, and 21 to 24) means, what would be right,
+and gives an example.
 ";

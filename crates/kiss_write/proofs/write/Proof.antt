@@ -26,7 +26,7 @@ returns : tie.Need-returns
 returns c = search needs
 
 returns-2 : tie.Need-returns-2
-returns-2 c = kiss.KissWrites.thirteen (sym (c .before .before .before .«open» .ensures) ∙ ap meaning (c .before .opened2 .given .1))
+returns-2 c = kiss.KissWrites.broken (sym (c .before .before .before .«open» .ensures) ∙ ap meaning (c .before .opened2 .given .1))
 
 pub write-spec : {M : Type 1} → statement M
 write-spec =

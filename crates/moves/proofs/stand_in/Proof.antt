@@ -1,4 +1,4 @@
--- `moves::stand_in` meets its contract: stands in the state with its outputs, or refuses with 13 where a spare bit of them is set.
+-- `moves::stand_in` meets its contract: stands in the state with its outputs, or refuses with 24 where a spare bit of them is set.
 -- Assumes nothing.
 use mathlib.Core.Path.{sym, ap, _∙_}
 use Prim.Native.Nat.{ℕ, _^_, _≤_, _<_}

@@ -27,10 +27,10 @@ returns c = ap meaning (c .refused .ensures) ∙ simp (sym (c .before .before .l
 returns-2 : tie.Need-returns-2
 unfolding openAnswer blocksAnswer
 returns-2 c =
-    let f = c .before .before .before .before .before .before .args .file .now in
-    let bad = c .before .before .first-bad .ensures .0 in
+    let f = c .before .before .before .before .before .before .before .args .file .now in
+    let bad = c .before .before .before .first-bad .ensures .0 in
     ap meaning (c .refused2 .ensures)
-    ∙ simp (good (c .before .before .before), bad, one-met (blockGood f (length f / 512)) (length f / 512) 0 (omega arith))
+    ∙ simp (good (c .before .before .before .before), c .before .fault .ensures, bad, one-met (blockGood f (length f / 512)) (length f / 512) 0 (omega arith))
 
 returns-3 : tie.Need-returns-3
 unfolding openAnswer blocksAnswer
@@ -48,6 +48,7 @@ open-spec =
     returns
     (λ c. omega (arith, sizes c .few))
     (λ c κs. (sizes c .few, omega arith))
+    (λ c κs. (omega (arith, sizes (c .before .before) .few), omega arith))
     (λ c κs. search needs)
     returns-2
     (λ c κs. good (c .before .before))

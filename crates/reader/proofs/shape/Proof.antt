@@ -37,10 +37,10 @@ shape-spec =
     (λ c κs. search needs)
     (λ c κs. search needs)
     (λ c κs. search needs)
-    (λ c. ap meaning (c .refused2 .ensures) ∙ odd-sizes (stated (c .before .before .before)) (c .before .before .before .before .before .before .if1 .left) (sym (c .before .before .sizes-good .ensures) ∙ not-true _ (c .before .if2 .taken)))
+    (λ c. c .misshapen .ensures ∙ odd-sizes (stated (c .before .before .before)) (sym (c .before .before .sizes-good .ensures) ∙ not-true _ (c .before .if2 .taken)))
     blocks-for-requires
     (λ c. search needs)
     (λ c. search needs)
     (λ c κs. search needs)
-    (λ c. ap meaning (c .refused3 .ensures) ∙ odd-length (stated (c .before .before .before .before .before)) (c .before .before .before .before .before .before .before .before .if1 .left) (good (c .before .before .before)) (λ e. c .before .if3 .taken (e ∙ sym (ap (λ (x : ℕ). 512 * x) (c .before .before .blocks-for .ensures .0)))))
-    (λ c. sound (stated (c .before .before .before .before)) (c .before .before .before .before .before .before .before .if1 .left) (good (c .before .before)) (c .if3 .left ∙ ap (λ (x : ℕ). 512 * x) (c .before .blocks-for .ensures .0))))
+    (λ c. c .misshapen2 .ensures ∙ odd-length (stated (c .before .before .before .before .before)) (good (c .before .before .before)) (λ e. c .before .if3 .taken (e ∙ sym (ap (λ (x : ℕ). 512 * x) (c .before .before .blocks-for .ensures .0)))))
+    (λ c. sound (stated (c .before .before .before .before)) (good (c .before .before)) (c .if3 .left ∙ ap (λ (x : ℕ). 512 * x) (c .before .blocks-for .ensures .0))))
