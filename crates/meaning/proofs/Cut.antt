@@ -102,6 +102,9 @@ module _ (most unit : ℕ) (weigh : Term → ℕ) (weighBy : List (Bound Summary
   on : (c n k r s : ℕ) → r ≡ min most (c + n) → s ≡ min most (r + k) → s ≡ min most (c + (n + k))
   on c n k r s e f = omega arith
 
+  grouped : (c n k m : ℕ) → min most (c + (n + k + m)) ≡ min most (c + (n + (k + m)))
+  grouped c n k m = ap (λ (i : ℕ). min most (c + i)) (omega arith)
+
   none-more : (c : ℕ) → c ≤ most → c ≡ min most (c + 0)
   none-more c h = omega arith
 
@@ -133,16 +136,16 @@ module _ (most unit : ℕ) (weigh : Term → ℕ) (weighBy : List (Bound Summary
           let e0 = with-term e c in
           let e1 = up-all a _ (inside c _ _ e0) in
           let e2 = up-all b _ (inside _ _ _ e1) in
-          omega arith
+          on c _ _ _ _ (on c _ _ _ _ e0 e1) e2 ∙ grouped c _ _ _ ∙ one _ c
       up (while p e b) c h =
           let e0 = with-term e c in
           let e1 = up-all b _ (inside c _ _ e0) in
-          omega arith
-      up (loop p b) c h = let e1 = up-all b (min most (c + unit)) (omega arith) in omega arith
+          on c _ _ _ _ e0 e1 ∙ one _ c
+      up (loop p b) c h = on c unit _ _ _ refl (up-all b (min most (c + unit)) (inside c unit _ refl)) ∙ one _ c
       up (exit p) c h = one unit c
       up (break p) c h = one unit c
-      up (switch p ts) c h = let e1 = up-tests ts (min most (c + unit)) (omega arith) in omega arith
-      up (parallel p bs) c h = let e1 = up-each bs (min most (c + unit)) (omega arith) in omega arith
+      up (switch p ts) c h = on c unit _ _ _ refl (up-tests ts (min most (c + unit)) (inside c unit _ refl)) ∙ one _ c
+      up (parallel p bs) c h = on c unit _ _ _ refl (up-each bs (min most (c + unit)) (inside c unit _ refl)) ∙ one _ c
       up (call v ts) c h = ap (λ (ss : List Summary). counts (v .bytes) ss c) (sym (summaries-right to bound ts)) ∙ same (moved to v) (map (replaced to bound) ts) c h
       up (passing p k) c h = one (unit + k * unit) c
 
@@ -159,14 +162,14 @@ module _ (most unit : ℕ) (weigh : Term → ℕ) (weighBy : List (Bound Summary
           let e0 : min most (c + weighBy (summed bound) e) ≡ min most (c + weigh (replaced to bound e)) = ap (λ (n : ℕ). min most (c + n)) (sym (right to bound e)) in
           let e1 = up-all b _ (inside c _ _ e0) in
           let e2 = up-tests ts _ (inside _ _ _ e1) in
-          omega arith
+          on c _ _ _ _ (on c _ _ _ _ e0 e1) e2 ∙ grouped c _ _ _
 
       up-each : (bs : Strands) (c : ℕ) → c ≤ most → upToEach most unit weighBy counts (summed bound) bs c ≡ min most (c + weightEach unit weigh (expandEach calls to bound bs))
       up-each unexpanded.none c h = none-more c h
       up-each (b ∥ bs) c h =
           let e1 = up-all b c h in
           let e2 = up-each bs _ (inside c _ _ e1) in
-          omega arith
+          on c _ _ _ _ e1 e2
 
   left : (c : ℕ) (v : Name) (ts : List Term) → min most (c + unit) ≡ min most (c + weightAll unit weigh (alone (call v ts)))
   unfolding weight

@@ -9,26 +9,26 @@ use native.Mathlib.Omega.{arith}
 use borrow.Author.Tests.{ltb-true}
 use lib.Dec.{ltb}
 use lib.ListN.{length}
 use Rattle.meaning.specs.Tree.{Name, Target, whole, part, Head, Stmt, skip, delay, change, assign, choice, while, loop, exit, break, switch, parallel, Stmts, end, _⨾_, Cases, default, case, Branches, _∥_}
 use Rattle.meaning.specs.Tree as tree
 use Rattle.meaning.specs.Numbers.{Variable, Reads, input, boolean, integer}
 use Rattle.meaning.specs.Tries.{bitAt}
 use Rattle.meaning.specs.Clock.{Entry, Jump, out, off, jumps, resumeAll}
 use Rattle.meaning.specs.States.{State, startState, stepState}
 use Rattle.meaning.specs.Declared.{Declaration, Source, lookUp}
 use Rattle.meaning.specs.Items.{Item, items, itemsAll, itemsCases, itemsEach}
 use Rattle.meaning.specs.Checked.{known, variableOf, targeted, checked, checkedAll, checkedCases, checkedEach, programOf}
 use Rattle.meaning.specs.Names.{gather, when}
 use Rattle.meaning.specs.Kinds.{changeable, hasBit, targetKind, itemKind, kindFaults}
 use Rattle.meaning.specs.Jumps.{jumpIn, jumpAll, jumpCases, jumpEach}
 use Rattle.meaning.specs.Sizes.{mostBits}
 use Rattle.meaning.specs.Faults.{faultOf}
 use Rattle.meaning.proofs.Tried.{Within, WithinAll, WithinCases, WithinEach, Tried, by-exit, by-break}
-use Rattle.meaning.proofs.Word.{ChangedBelow, AssignedBelow, Below, tried-below, word-below}
+use Rattle.meaning_claims.proofs.Word.{ChangedBelow, AssignedBelow, Below, tried-below, word-below}
 use Rattle.meaning.proofs.Declared.{bitCount, Found, found-below, initial-below, when-none, bits-most}
 use Rattle.meaning.proofs.Faults.{none-exactly}
 use Rattle.meaning.proofs.Sizes.{sized}
 use Rattle.meaning.proofs.Lists.{not-empty, both-empty, none-both, none-cons}
 
 opposite-false : (t : Bool) → opposite t ≡ false → t ≡ true
 opposite-false true e = refl

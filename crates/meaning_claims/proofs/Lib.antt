@@ -1,0 +1,13 @@
+pub mod Kept
+pub mod Apart
+pub mod Word
+pub mod Owned
+pub mod Parallel
+pub mod Loops
+pub mod Switch
+pub mod Limits
+pub mod Numbered
+pub mod Placed
+pub mod Fits
+pub mod Samples
+pub mod Unasked
