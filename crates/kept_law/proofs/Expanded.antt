@@ -5,7 +5,7 @@ use mathlib.Core.List.{List, [], ◌∷◌, map}
 use mathlib.Core.Option.{Option, none, some}
 use Prim.Native.Nat.{ℕ}
 use Rattle.meaning.specs.Tree.{Name, Target, whole, part}
-use Rattle.meaning.specs.Declared.{Declaration, same_bytes}
+use Rattle.meaning.specs.Declared.{same_bytes}
 use Rattle.meaning.specs.Unexpanded.{Term, literal, truth, variable, bit, not, int, arithmetic, comparison, logic, parens, instead, no_name, Command, skip, delay, change, assign, choice, while, loop, exit, break, switch, parallel, call, passing, Commands, end, ◌⨾◌, Tests, default, case, Strands, ◌∥◌, Procedure, DeclaredName, a_variable, a_procedure, Unexpanded}
 use Rattle.meaning.specs.Unexpanded as unexpanded
 use Rattle.meaning.specs.Expansion.{Bound, actual_of, bind, Form, one_name, one_bit, neither, form_of, moved, read_name, bit_of_form, read_bit, name_of_form, changed_name, target_of_form, changed_whole, replaced, target_replaced, allowed_by, same_count, followed_by, alone, expand, expand_all, expand_tests, expand_each, called, sizes_passed, if_within, outermost, procedures_from, variables_of, expanded_body}

@@ -1,10 +1,9 @@
 -- Statements as a text can have them have no more activities than statements.
 -- Assumes nothing.
-use mathlib.Core.List.{List, ◌∷◌, ◌++◌}
-use Prim.Native.Nat.{ℕ, ◌+◌, ◌≤◌, max}
+use Prim.Native.Nat.{◌≤◌, max}
 use native.Mathlib.Omega.{arith}
 use Rattle.meaning.specs.Clock.{activities, activities_all, activities_cases, activities_sum}
-use Rattle.meaning.specs.Items.{Item, items, items_all, items_cases, items_each}
+use Rattle.meaning.specs.Items.{items, items_all, items_cases, items_each}
 use Rattle.meaning.specs.Names.{gather}
 use Rattle.meaning.specs.Unexpanded.{Command, skip, delay, change, assign, choice, while, loop, exit, break, switch, parallel, call, passing, Commands, end, ◌⨾◌, Tests, default, case, Strands, ◌∥◌}
 use Rattle.meaning.specs.Unexpanded as unexpanded

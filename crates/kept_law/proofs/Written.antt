@@ -2,10 +2,8 @@
 -- Assumes nothing.
 use mathlib.Core.Bool.{Bool, true, false, cond}
 use mathlib.Core.Path.{◌≡◌, refl, ap₂}
-use mathlib.Core.List.{List, [], ◌∷◌, ◌++◌, map}
-use mathlib.Core.Option.{Option, none, some}
-use Prim.Native.Nat.{ℕ, suc}
-use Prim.Native.String.{String}
+use mathlib.Core.List.{List, [], ◌∷◌, ◌++◌}
+use Prim.Native.Nat.{ℕ}
 use lib.ListN.{get_elem?}
 use Rattle.ll1.specs.Values.{Makes}
 use Rattle.meaning.specs.Tree.{Name}
@@ -13,7 +11,7 @@ use Rattle.meaning.specs.Declared.{same_bytes}
 use Rattle.meaning.specs.Unexpanded.{Term, Command, skip, delay, change, assign, choice, while, loop, exit, break, switch, parallel, call, passing, Commands, end, ◌⨾◌, Tests, default, case, Strands, ◌∥◌}
 use Rattle.meaning.specs.Unexpanded as unexpanded
 use Rattle.meaning.specs.Expansion.{Bound, bind, allowed_by, same_count, followed_by, alone, expand, expand_all, expand_tests, expand_each, called}
-use Rattle.meaning.specs.Procedures.{found_in, found_all, found_tests, found_each, calls_passing}
+use Rattle.meaning.specs.Procedures.{found_in, found_tests, found_each, calls_passing}
 use Rattle.language.specs.Words.{Word}
 use Rattle.language.specs.Grammar.{Part, Program, Declarations, Declaration, Inputs, MoreInputs, Ending, Booleans, MoreBooleans, BooleanStart, BooleanValue, Integers, MoreIntegers, IntegerStart, Statements, AfterStatement, NextStatement, Statement, Else, Cases, Branches, Target, Index, Procedure, Formals, FormalNames, MoreFormals, AfterProcedure, AfterName, Actuals, MoreActuals, Tier, Further, Line, binding, tier, further, csml}
 use Rattle.language.specs.Trees.{Val, makes_further, makes_tier, makes}

@@ -2,7 +2,7 @@
 -- Assumes nothing.
 use Rattle.std.specs.Prelude.{◌≡◌, List, [], ◌∷◌, ℕ, ◌≤◌}
 use Rattle.meaning.specs.Tree.{Name, Target, whole, part}
-use Rattle.meaning.specs.Declared.{Declaration, inputs, outputs, internals, integers, name_of}
+use Rattle.meaning.specs.Declared.{Declaration, inputs, outputs, internals, integers}
 use Rattle.meaning.specs.Unexpanded.{Term, literal, truth, variable, bit, not, int, arithmetic, comparison, logic, parens, instead, no_name, Command, skip, delay, change, assign, choice, while, loop, exit, break, switch, parallel, call, passing, Commands, end, ◌⨾◌, Tests, default, case, Strands, none, ◌∥◌, Procedure, DeclaredName, a_variable, a_procedure, Unexpanded}
 use Rattle.meaning.specs.Expansion.{Bound}
 use Rattle.language.specs.Words.{Word, number, largest_number}

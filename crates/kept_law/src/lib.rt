@@ -1,1 +1,3 @@
 // Laws: what the tree of a text has, and its expansion too. No code.
+
+#![tactic(auto)]

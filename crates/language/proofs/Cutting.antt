@@ -14,7 +14,7 @@ use lib.Dec.{eqb}
 use borrow.Author.Tests.{eq-eqb, ne_eqb}
 use Rattle.ll1.proofs.Sets.{clash}
 use Rattle.language.specs.Words.{blank, in_blanks, IsWord, Longest, kind_of, too_large, Word, word_at, Words, words, refused, before, Cut, ends, skips, takes, large, strange}
-use Rattle.language.specs.Scan.{span, word_length, found, stops, over, next_at, past_blanks, next_word, behind, follow, words_up_to, words_from, words_of}
+use Rattle.language.specs.Scan.{span, word_length, found, stops, next_at, past_blanks, next_word, behind, follow, words_up_to, words_from, words_of}
 use Rattle.language.proofs.Runs.{span_fits}
 use Rattle.language.proofs.Longest.{Takes, longest_taken, blank_none, no_empty-word}
 

@@ -23,7 +23,7 @@ use Rattle.meaning.specs.Declared.{Source}
 use Rattle.meaning.specs.Checked.{program_of}
 use Rattle.language.specs.Texts.{good, refused, Reads}
 use Rattle.language.specs.Tables.{machine_of, Tabled}
-use Rattle.language.specs.Promise.{Made, Lent, Ended, Ready, FileOf, Compiles, one, fault, made}
+use Rattle.language.specs.Promise.{Made, Lent, Ended, Ready, FileOf, Compiles, fault, made}
 use Rattle.language.proofs.OneTable.{one_file}
 use Rattle.language.proofs.OneAnswer.{one-source, one_answer}
 use Rattle.language.proofs.Success.{file_in, made_of, Success, success, success_of, whole-blocks, file_in_lem, fits}

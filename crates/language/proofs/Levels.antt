@@ -1,10 +1,9 @@
 -- Levels stand where the rules put them: in every row of the grammar a level opens right before `(`, `!` or the first word of a compound statement, and before nothing else,
 -- and the row ends where it closes. By computation over all rows; how many levels may be open is shown in crates/trials.
 -- Assumes nothing.
-use mathlib.Core.Bool.{Bool, true, false, cond, not as opposite}
+use mathlib.Core.Bool.{Bool, true, false, cond}
 use mathlib.Core.Path.{◌≡◌, refl}
 use mathlib.Core.List.{List, [], ◌∷◌}
-use Prim.Native.Nat.{ℕ}
 use Rattle.ll1.specs.Grammar.{word, part, In, Out}
 use Rattle.language.specs.Words.{Kind, the}
 use Rattle.language.specs.Grammar.{Part, Line, binding, csml}

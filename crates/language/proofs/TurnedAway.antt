@@ -1,12 +1,10 @@
 -- "Try these and watch the promise turn them away": each wrong compiler, and the idle stepper, breaks what is promised.
 -- Assumes nothing.
-use mathlib.Core.Path.{◌≡◌, sym, ◌∙◌, ap, subst}
+use mathlib.Core.Path.{◌≡◌, sym, ◌∙◌, ap}
 use mathlib.Core.List.{List, [], ◌∷◌, map}
 use Prim.Native.Nat.{ℕ, zero, suc, ◌+◌, ◌*◌, ◌/◌, ◌^◌, ◌≤◌, ◌<◌}
 use native.Mathlib.Decide.{dec_lt}
 use native.Mathlib.Omega.{arith}
-use lib.Dec.{eqb}
-use borrow.Author.Tests.{eqb-true}
 use lib.ListN.{length, get_or, take, replicate, length-replicate, get_or-replicate, length-take, get_or-eq_default}
 use lib.Seq.{get_or-take}
 use Rattle.reach_law.specs.Count.{Counted}
@@ -17,7 +15,6 @@ use Rattle.file_law.specs.Table.{most_states, Table, Fits, Running, clocks, tabl
 use Rattle.file_law.specs.File.{stream_of, file_of}
 use Rattle.file_law.specs.Reading.{most_blocks, Sizes, open_answer}
 use Rattle.file_law.specs.Stepping.{step_answer, start_answer, after, run_answers, outputs_code}
-use Rattle.file_law.proofs.Every.{both_left, both_right}
 use Rattle.file_law.proofs.Tests.{block, blocks-small}
 use Rattle.file_law.proofs.Sound.{Sound, sound}
 use Rattle.file_law.proofs.Round.{accepted, no_shared_file, written_runs}

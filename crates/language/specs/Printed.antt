@@ -4,7 +4,6 @@ use Rattle.std.specs.Prelude.{cond, List, [], ◌∷◌, ◌++◌, map, ℕ, zer
 use Prim.Native.String.{String}
 use Rattle.file_law.specs.Answer.{listed}
 use Rattle.file_law.specs.Table.{Table, Row}
-use Rattle.meaning.specs.Tree as tree
 use Rattle.meaning.specs.Declared.{Declaration, inputs, outputs, internals, integers, Source}
 use Rattle.meaning.specs.Names.{gather}
 use Rattle.language.specs.Words.{bytes}

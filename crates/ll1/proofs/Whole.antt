@@ -34,10 +34,10 @@ module _ {K P : Type 0} (G : Grammar K P) where
   cut : (j : ℕ) (b : Row K P) {k : ℕ} {a : Row K P} {w : List K} {d : List ℕ} → Reads G j b k a w d → (u v : List K) → w ≡ u ++ v → Begins G k a u
   cut j b {k} {a} x [] v e = ([], k, a, stop refl refl)
   cut j b (stop f g) (s ∷ u) v e = absurd (nil≢cons e)
-  cut j b (reads f x) (s ∷ u) v e = let (d, l, c, y) = cut j b x u v (tail-eq_of_cons-eq e) in (d, l, c, reads (f ∙ head-eq_of_cons-eq e) y)
+  cut j b {k = k} (reads {t = t} {r = r} f x) (s ∷ u) v e = let (d, l, c, y) = cut j b {k = k} {a = r} x u v (tail-eq_of_cons-eq e) in (d, l, c, reads (f ∙ head-eq_of_cons-eq e) y)
   cut j b (rule i h x) (s ∷ u) v e = let (d, l, c, y) = cut j b x (s ∷ u) v e in (i ∷ d, l, c, rule i h y)
-  cut j b (into x) (s ∷ u) v e = let (d, l, c, y) = cut j b x (s ∷ u) v e in (d, l, c, into y)
-  cut j b (out x) (s ∷ u) v e = let (d, l, c, y) = cut j b x (s ∷ u) v e in (d, l, c, out y)
+  cut j b (into {k = k} {r = r} {w = w} {d = h} x) (s ∷ u) v e = let (d, l, c, y) = cut j b {k = k} {a = r} {w = w} {d = h} x (s ∷ u) v e in (d, l, c, into y)
+  cut j b {k = k} (out {r = r} {w = w} {d = h} x) (s ∷ u) v e = let (d, l, c, y) = cut j b {k = suc k} {a = r} {w = w} {d = h} x (s ∷ u) v e in (d, l, c, out y)
 
   pub shorter : (k : ℕ) (a : Row K P) (u v : List K) → Begins G k a (u ++ v) → Begins G k a u
   shorter k a u v (d, j, b, x) = cut j b x u v refl

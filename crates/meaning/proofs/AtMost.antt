@@ -1,6 +1,6 @@
 -- The sizes that count, said against a count: so many inputs, outputs, bits, statements and parts at most, each number once more, exactly.
 -- Assumes nothing.
-use mathlib.Core.Path.{◌≡◌, refl, sym, ◌∙◌, ap, ap₂}
+use mathlib.Core.Path.{◌≡◌, refl, ap, ap₂}
 use mathlib.Core.Bool.{Bool, true, false}
 use mathlib.Core.List.{List, [], ◌∷◌, ◌++◌, map}
 use Prim.Native.Nat.{ℕ, zero, suc, ◌+◌, ◌≤◌}
@@ -9,7 +9,7 @@ use lib.Dec.{ltb}
 use borrow.Author.Tests.{ltb-true}
 use lib.ListN.{length, drop, length-append, length-drop, length-map}
 use Rattle.meaning.specs.Tree.{Name, Expr, literal, truth, variable, bit, not, int, arithmetic, comparison, logic, Stmt, skip, delay, change, assign, choice, while, loop, exit, break, switch, parallel, Stmts, end, ◌⨾◌, Cases, default, case, Branches, none, ◌∥◌}
-use Rattle.meaning.specs.Declared.{Declaration, inputs, outputs, internals, integers, Source, name_of, one, input_count, an_output, output_count, other_bits}
+use Rattle.meaning.specs.Declared.{Declaration, inputs, outputs, internals, integers, Source, name_of, input_count, output_count}
 use Rattle.meaning.specs.Items.{Item, items, items_all, items_cases, items_each, within, own, parts_of, place_of}
 use Rattle.meaning.specs.Names.{gather, when}
 use Rattle.meaning.specs.Sizes.{bits_of, bits_from, input_places, output_places, statement_place, width_fault, item_size, size_faults}

@@ -7,8 +7,7 @@ use Prim.Native.Nat.{ℕ, ◌<◌, ◌≤◌}
 use native.Mathlib.Omega.{arith}
 use lib.Dec.{ltb}
 use borrow.Author.Tests.{ltb-true, ltb-false}
-use lib.IntN.{ℤ, pos, negsuc, ◌-ℤ◌}
-use lib.Signed.{lt_z}
+use lib.IntN.{ℤ, pos, negsuc}
 use Rattle.meaning.specs.Tree.{equal, unequal, greater, less, and, or}
 use Rattle.meaning.specs.Numbers.{Value, whole, bool, whole_of, bool_of, same_bool, same_whole, compare, combine, as_number}
 

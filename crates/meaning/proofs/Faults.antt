@@ -84,6 +84,7 @@ least-all p (x ∷ ps) q m = least_step p x (least (min p x) ps) ps (least-all (
 each_in_lem : {p : ℕ} (number : ℕ) (ps : List ℕ) → Memᴰ p ps → Memᴰ (fault number p) (each number ps)
 each_in_lem number (q ∷ ps) (Memᴰ.head e) = Memᴰ.head (ap (fault number) e)
 each_in_lem number (q ∷ ps) (Memᴰ.tail m) = Memᴰ.tail (each_in_lem number ps m)
+each_in_lem {p = p} number [] x' = elim x' [ ]
 
 each-out : (number : ℕ) (ps : List ℕ) (g : Fault) → Memᴰ g (each number ps) → (g.number ≡ number) × Memᴰ g.place ps
 each-out number [] g m = absurd (Memᴰ.not-nil m)

@@ -63,6 +63,7 @@ module _
     from_some (x ∷ ts) j t (Memᴰ.head e) h =
         all-bit x ts j ∙ or_left _ _ (ap (λ (y : Tries). bit_of (mask y) j) (sym e) ∙ h)
     from_some (x ∷ ts) j t (Memᴰ.tail m) h = all-bit x ts j ∙ or_right (bit_of (mask x) j) _ (from_some ts j t m h)
+    from_some [] j t x'' h = elim x'' [ ]
 
     to_some : (ts : List Tries) (j : ℕ) → bit_of (all ts) j ≡ true → (t : Tries) × Memᴰ t ts × (bit_of (mask t) j ≡ true)
     to_some [] j e = absurd (not_both e (ap (λ (x : ℕ). bit_of x j) empty ∙ no_bit j))

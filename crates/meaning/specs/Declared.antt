@@ -1,6 +1,6 @@
 -- What is declared, what each name then stands for, and the checked program.
 -- Assumes nothing.
-use Rattle.std.specs.Prelude.{ℕ, zero, ◌+◌, ◌*◌, ◌%◌, ◌^◌, Bool, true, false, cond, List, [], ◌∷◌, eqb}
+use Rattle.std.specs.Prelude.{ℕ, ◌+◌, ◌*◌, ◌%◌, ◌^◌, Bool, true, false, cond, List, [], ◌∷◌, eqb}
 use Rattle.std.proofs.Math.Option.{Option, none, some}
 use Rattle.meaning.specs.Tree.{Name, Stmts}
 use Rattle.meaning.specs.Numbers.{Variable, input, boolean, integer}

@@ -1,7 +1,7 @@
 -- The tree of a program: declarations, statements and expressions, each with its place in the text.
 -- Names stand for what N says: in the tree of a text for a name, in a checked program for a variable.
 -- Assumes nothing.
-use Rattle.std.specs.Prelude.{ℕ, ◌+◌, Bool, List}
+use Rattle.std.specs.Prelude.{ℕ, Bool, List}
 
 -- a name where it stands
 pub record Name : Type 0 where

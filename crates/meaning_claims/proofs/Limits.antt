@@ -2,12 +2,12 @@
 -- Assumes nothing.
 use mathlib.Core.Path.{◌≡◌, refl}
 use mathlib.Core.Bool.{true}
-use mathlib.Core.List.{List, [], ◌∷◌, map}
+use mathlib.Core.List.{[], ◌∷◌, map}
 use mathlib.Core.Option.{Option, none, some}
 use Prim.Native.Nat.{ℕ, zero, suc, ◌+◌}
 use Rattle.meaning.specs.Tree.{Name, plus, and, less as smaller, literal, truth, variable, bit, not, int, arithmetic, comparison, logic, Head, skip, delay, change, raise, part, assign, choice, while, loop, exit, break, switch, parallel, Stmts, end, ◌⨾◌, default, case, ◌∥◌}
 use Rattle.meaning.specs.Tree as tree
-use Rattle.meaning.specs.Declared.{Declaration, integers, Source, same_bytes, output_count, look_from, look_up}
+use Rattle.meaning.specs.Declared.{integers, Source, same_bytes, output_count, look_from, look_up}
 use Rattle.meaning.specs.Clock.{head_of, activities}
 use Rattle.meaning.specs.Items.{Item, statement, test, items, items_all, within, parts_of, place_of}
 use Rattle.meaning.specs.Names.{gather, among, again_from, name_faults}

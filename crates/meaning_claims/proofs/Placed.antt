@@ -1,7 +1,6 @@
 -- Checking keeps places: each statement, case test and part of a checked program stands where it stood in the text.
 -- Assumes nothing.
 use mathlib.Core.Path.{◌≡◌, refl}
-use mathlib.Core.Bool.{Bool}
 use Prim.Native.Nat.{ℕ}
 use Rattle.meaning.specs.Tree.{Name, Expr, literal, truth, variable, bit, not, int, arithmetic, comparison, logic, Head, Stmt, skip, delay, change, assign, choice, while, loop, exit, break, switch, parallel, Stmts, Cases, default, case}
 use Rattle.meaning.specs.Numbers.{Variable}

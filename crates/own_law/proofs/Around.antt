@@ -6,7 +6,7 @@ use mathlib.Core.List.{List}
 use Prim.Native.Nat.{ℕ, ◌+◌, ◌≤◌}
 use native.Mathlib.Omega.{arith}
 use lib.Dec.{ltb, leb}
-use borrow.Author.Tests.{le-leb, lt-leb, leb-true, leb-false, lt-ltb, le-ltb}
+use borrow.Author.Tests.{le-leb, leb-true, leb-false, lt-ltb, le-ltb}
 use Rattle.meaning.specs.Kinds.{both}
 use Rattle.meaning.specs.Sizes.{most_statements, most_parts}
 use Rattle.meaning.specs.Levels.{most_levels}
@@ -15,8 +15,8 @@ use Rattle.meaning.specs.Unexpanded.{Commands}
 use Rattle.meaning.specs.Base.{base_all}
 use Rattle.meaning.proofs.Depth.{depth_all}
 use Rattle.own_law.specs.Own.{Own, nothing, past, own_all}
-use Rattle.own_law.proofs.Borne.{is_none, fits, bears, Sound, made, Adds}
-use Rattle.own_law.proofs.Own.{statements_in, parts_in, too_large, all-adds, nothing-sound}
+use Rattle.own_law.proofs.Borne.{is_none, bears, Sound, made}
+use Rattle.own_law.proofs.Own.{statements_in, parts_in, too_large, all-adds}
 
 -- nothing is counted, and so many levels are open
 abbrev pub around : ℕ → Own

@@ -13,7 +13,7 @@ use Rattle.file_law.specs.Table.{Table}
 use Rattle.file_law.specs.File.{words, row_bytes, rows_bytes, stream_of, piece_of, body_of, block_of, blocks, file_of}
 use Rattle.meaning.specs.Declared.{Source}
 use Rattle.language.specs.Words.{bytes}
-use Rattle.language.specs.Promise.{Lent, all_zero, refusal}
+use Rattle.language.specs.Promise.{all_zero, refusal}
 use Rattle.language.specs.Listings.{Prints}
 use Rattle.language.proofs.Listing.{listing_right}
 use Rattle.language.proofs.Computing.{yield_in, Lists, lists}

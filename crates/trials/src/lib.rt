@@ -1,1 +1,3 @@
+#![tactic(auto)]
+
 // The trials of the document, computed from the definitions. No code.
