@@ -1,4 +1,6 @@
 // CRC-32 of a slice, a byte at a time, by a table of 256 remainders.
+#![tactic(auto)]
+
 ghost use Rattle.std.specs.Prelude.{◌≡◌};
 ghost use Rattle.crc_law.specs.Crc.{step_byte, register, ones, crc_of};
 ghost use Rattle.crc.specs.Remainders.{Remainders};

@@ -1,0 +1,37 @@
+-- `crc::over` meets its contract. The loop's invariant: the register at i, taken over the bytes that are left, ends where the whole does.
+-- Assumes nothing.
+use mathlib.Core.Path.{◌≡◌, refl, sym, ap, ◌∙◌}
+use Prim.Native.Nat.{ℕ, ◌+◌, ◌-◌, ◌≤◌, ◌<◌}
+use native.Mathlib.Numerals.{add-one}
+use native.Mathlib.Omega.{arith}
+use mathlib.Core.List.{List, ◌∷◌}
+use lib.ListN.{length, get_or, drop, drop_of_length-le}
+use lib.Seq.{drop-cons}
+use Rattle.crc_law.specs.Crc.{ones, step_byte, register}
+use Rattle.crc.proofs.over.Goals as goal
+
+more : (s : List ℕ) (r i : ℕ) → i < length s → register r (drop i s) ≡ register (step_byte r (get_or s i 0)) (drop (i + 1) s)
+unfolding register
+more s r i h = ap (register r) (drop-cons s i 0 h ∙ ap (λ (k : ℕ). get_or s i 0 ∷ drop k s) (sym (add-one i)))
+
+done : (s : List ℕ) (r i : ℕ) → length s ≤ i → register r (drop i s) ≡ r
+unfolding register
+done s r i h = ap (register r) (drop_of_length-le s h)
+
+pub loop-i-init : goal.loop-i-init
+loop-i-init c = (omega arith, refl)
+
+pub next-r-requires : goal.next-r-requires
+next-r-requires c = c.requires
+
+pub loop-i-preserved : goal.loop-i-preserved
+loop-i-preserved c =
+    let l = c.loop-i in
+    let s = c.args.s.now in
+    let h : l.i < length s = omega arith in
+    (omega arith, ap (λ (x : ℕ). register x (drop (l.i + 1) s)) c.next-r.ensures ∙ sym (more s l.r l.i h) ∙ l.invariant.1)
+
+pub returns : goal.returns
+returns c =
+    let l = c.loop-i in
+    sym (done c.args.s.now l.r l.i c.loop-i-test.false) ∙ l.invariant.1
