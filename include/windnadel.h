@@ -29,10 +29,10 @@
  * there is no other target today. Each archive is made by one command, with
  * proof, in the folder target/staticlib:
  *
- *     rt staticlib stepper     libstepper.a: open, step, outputs
- *     rt staticlib compiler    libcompiler.a: compile
- *     rt staticlib kiss_write  libkiss_write.a: writing KISS text
- *     rt staticlib kiss_read   libkiss_read.a: reading KISS text
+ *     tools/archive stepper     libstepper.a: open, step, outputs
+ *     tools/archive compiler    libcompiler.a: compile
+ *     tools/archive kiss_write  libkiss_write.a: writing KISS text
+ *     tools/archive kiss_read   libkiss_read.a: reading KISS text
  *
  * Linking. An archive is one object and stands alone or beside the others, in
  * any order. It needs no C library: libstepper.a and libkiss_write.a ask for

@@ -11,7 +11,7 @@ fn main() {
     println!("cargo:rustc-link-search=native={}", archives.display());
     for name in ["compiler", "stepper", "kiss_write", "kiss_read"] {
         let archive = archives.join(format!("lib{name}.a"));
-        assert!(archive.is_file(), "{} is not there: `rt staticlib {name}` makes it", archive.display());
+        assert!(archive.is_file(), "{} is not there: `tools/archive {name}` makes it", archive.display());
         println!("cargo:rerun-if-changed={}", archive.display());
         println!("cargo:rustc-link-lib=static={name}");
     }

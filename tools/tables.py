@@ -4,6 +4,7 @@
 # is tested where it is proved.
 import os
 import re
+import textwrap
 
 ROOT = os.path.join(os.path.dirname(os.path.abspath(__file__)), '..', 'crates')
 IN, OUT, FIRST_PART, COLUMNS = 126, 127, 128, 128
@@ -142,16 +143,14 @@ def numbers(name, comment, value):
     lines += ['%s %s = %d' % (name, p, value[p]) for p in named]
     for kind in ('Tier', 'Further'):
         values = [value.get('%s %d' % (kind, n), 0) for n in range(len(binding) + 1)]
-        lines.append('%s (%s n) = getD (%s) n %d' % (name, kind, listed(values[:-1]), values[-1]))
+        lines.append('%s (%s n) = get_or (%s) n %d' % (name, kind, listed(values[:-1]), values[-1]))
     return '\n'.join(lines) + '\n'
 
 
 out = '''-- The grammar's rows as bytes, and where each row begins that a word calls for. Made by tools/tables.py; nothing rests on how: proofs/Serves tests every entry.
 -- Assumes nothing.
-use mathlib.Core.List.{List, [], _∷_}
-use Prim.Native.Nat.{ℕ}
-use lib.ListN.{getD}
-use Rattle·language.specs.Grammar.{Part, %s}
+use Rattle.std.specs.Prelude.{List, [], ◌∷◌, ℕ, get_or}
+use Rattle.language.specs.Grammar.{Part, %s}
 
 -- the parts in the order of their numbers
 unfoldable pub parts : List Part
@@ -162,14 +161,14 @@ unfoldable pub rows : List ℕ
 rows = %s
 
 -- how many bytes that is, how many cells the table of starts has, and how many of them are not 0
-abbrev pub rowBytes : ℕ
-rowBytes = %d
+abbrev pub row_bytes : ℕ
+row_bytes = %d
 
-abbrev pub cellCount : ℕ
-cellCount = %d
+abbrev pub cell_count : ℕ
+cell_count = %d
 
-abbrev pub callCount : ℕ
-callCount = %d
+abbrev pub call_count : ℕ
+call_count = %d
 
 -- the rows of each part in order: where one begins, and the kinds of the words that call for it
 unfoldable pub calls : List (List (ℕ × List ℕ))
@@ -186,7 +185,11 @@ open(os.path.join(ROOT, 'grammar_law', 'specs', 'Tables.antt'), 'w').write(out)
 
 def const(comment, name, kind, values, notes=None):
     lines = ['// ' + comment, 'pub const %s: [%s; %d] = [' % (name, kind, len(values))]
-    lines += ['    %d,%s' % (v, ' // ' + notes[i] if notes and notes[i] else '') for i, v in enumerate(values)] + ['];']
+    if notes:
+        lines += ['    %d,%s' % (v, ' // ' + notes[i] if notes[i] else '') for i, v in enumerate(values)]
+    else:
+        lines += textwrap.wrap(' '.join('%d,' % v for v in values), 99, initial_indent='    ', subsequent_indent='    ')
+    lines += ['];']
     return '\n'.join(lines) + '\n'
 
 
@@ -209,8 +212,7 @@ last_join = max(kinds.index(o) for o in joins)
 strengths = [joins.get(k, 255) for k in kinds[:last_join + 1]]
 open(os.path.join(ROOT, 'tiers', 'specs', 'Strengths.antt'), 'w').write('''-- The strength of an operator between its operands, by the number of its kind; 255 for every other word. Made by tools/tables.py; nothing rests on how: proofs/Chosen tests every entry.
 -- Assumes nothing.
-use mathlib.Core.List.{List, [], _∷_}
-use Prim.Native.Nat.{ℕ}
+use Rattle.std.specs.Prelude.{List, [], ◌∷◌, ℕ}
 
 abbrev pub strengths : List ℕ
 strengths = %s

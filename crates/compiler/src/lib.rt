@@ -3,7 +3,6 @@ ghost use Rattle.std.specs.Prelude.{◌≡◌, ◌*◌, ◌^◌, ◌≤◌, leng
 ghost use Rattle.stored.specs.Stored.{Stored};
 ghost use Rattle.language.specs.Promise.{Compiles, Ready};
 ghost use Rattle.compiler.specs.Answered.{lent, ended, EndsSo};
-ghost use Rattle.compiler.specs.Code.{Coded};
 
 use files::Filed;
 use search::{Task, Turn};
@@ -109,21 +108,4 @@ pub fn compile(source: &[u8], room: u32, work: &mut [u8], file: &mut [u8]) -> Co
     let r = answer(source, room, work, file);
     wiped::wipe(work);
     r
-}
-
-// For C: states + 65,536 x blocks, or the refusal's number times 2^32 plus its place.
-#[unsafe(no_mangle)]
-pub extern "C" fn windnadel_compile(
-    source: &[u8],
-    room: u32,
-    work: &mut [u8],
-    file: &mut [u8],
-) -> u64
-    ensures { Coded (lent source.now room work.old file.old) result work.new file.new }
-{
-    let r = compile(source, room, work, file);
-    match r {
-        Compiled::Made { states, blocks } => states as u64 + 65536 * blocks as u64,
-        Compiled::Refused { number, place } => number as u64 * 4294967296 + place as u64,
-    }
 }

@@ -4,7 +4,7 @@ ghost use Rattle.kiss_law.specs.Kiss.{KissReads};
 ghost use Rattle.kiss_law.specs.Forms.{TextSizes};
 ghost use Rattle.kiss_walk.specs.Walk.{GoodText};
 ghost use Rattle.kiss_read.specs.Cursor.{RowIs, WordIs, PieceIs, BlockIs, FileIs};
-ghost use Rattle.kiss_read.specs.Meaning.{meaning, ReadCoded};
+ghost use Rattle.kiss_read.specs.Meaning.{meaning};
 
 use kiss_walk::Walked;
 
@@ -205,17 +205,5 @@ pub fn read(text: &[u8], file: &mut [u8]) -> Unkissed
             at,
         } => read_good(text, file, inputs, outputs, states, at),
         Walked::Stop { place } => Unkissed::Refused { number: 15, place },
-    }
-}
-
-// For C: the file's blocks, or the refusal's number times 2^32 plus its place.
-#[unsafe(no_mangle)]
-pub extern "C" fn windnadel_kiss_read(text: &[u8], file: &mut [u8]) -> u64
-    ensures { ReadCoded text.now file.old result file.new }
-{
-    let r = read(text, file);
-    match r {
-        Unkissed::File { blocks } => blocks as u64,
-        Unkissed::Refused { number, place } => number as u64 * 4294967296 + place as u64,
     }
 }

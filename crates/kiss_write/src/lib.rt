@@ -6,7 +6,7 @@ ghost use Rattle.kiss_law.specs.Text.{decimal, heading};
 ghost use Rattle.kiss_law.specs.Kiss.{KissWrites};
 ghost use Rattle.kiss_put.specs.Put.{Put};
 ghost use Rattle.kiss_write.specs.Held.{held_state, held_rows, held_text, Holds};
-ghost use Rattle.kiss_write.specs.Meaning.{meaning, WriteCoded};
+ghost use Rattle.kiss_write.specs.Meaning.{meaning};
 
 use reader::Opened;
 
@@ -168,17 +168,5 @@ pub fn write(file: &[u8], text: &mut [u8]) -> Kissed
             states,
         } => write_sound(file, text, inputs, outputs, states),
         Opened::Refused { number, place } => Kissed::Refused { number, place },
-    }
-}
-
-// For C: the text's length, or the refusal's number times 2^32 plus its place.
-#[unsafe(no_mangle)]
-pub extern "C" fn windnadel_kiss_write(file: &[u8], text: &mut [u8]) -> u64
-    ensures { WriteCoded file.now text.old result text.new }
-{
-    let r = write(file, text);
-    match r {
-        Kissed::Text { length } => length as u64,
-        Kissed::Refused { number, place } => number as u64 * 4294967296 + place as u64,
     }
 }
