@@ -1,6 +1,5 @@
 -- `controller::moved` meets its contract: for each case of the answer both sides are the same record.
 -- Assumes nothing.
-use borrow.Author.Rules.{rules}
 use Rattle.controller.proofs.moved.Goals as goal
 
 pub returns-in-At : goal.returns-in-At
