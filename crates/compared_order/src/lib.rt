@@ -1,1 +1,3 @@
+#![tactic(auto)]
+
 // The definitions against the yardstick: computed listings. No code.

@@ -1,28 +1,34 @@
 // Runs the vectors: each argument names a file of data/, and a line with its name and its check in eight hexadecimal digits is written.
 // A name ends in the length; `ones` are bytes of ones, `rising` counts up from 0, `mixed` has no order.
-use libc::STDOUT_FILENO;
+#![tactic(auto)]
+
+use std::io;
+use std::io::Print;
+use std::rt::{Env, Files};
 
 // One vector.
-fn one(n: usize) {
-    let mut path = io::buffer();
-    let mut file = io::buffer();
-    let given = input::named(n, b"argument", &mut path, &mut file);
+fn one(rt: &(impl Env + Files + Print), errors: &impl Print, n: usize) -> io::Result<()> {
+    let mut path = [0u8; 4096];
+    let mut file = [0u8; 4096];
+    let given = input::named(rt, errors, n, b"argument", &mut path, &mut file);
     if given.found {
         let length = given.name;
         let got = given.bytes;
         let check = crc::crc(&file[..got]);
-        io::write_all(STDOUT_FILENO, &path[..length]);
-        io::write_all(STDOUT_FILENO, b" ");
-        io::print_hex(STDOUT_FILENO, check as u64, 8);
-        io::write_all(STDOUT_FILENO, b"\n");
+        rt.write_all(&path[..length])?;
+        rt.write_all(b" ")?;
+        println!(rt; "{check:08x}")?;
     }
+    Ok(())
 }
 
-fn main() {
-    let count = os::arg_count();
-    let mut n: usize = 1;
-    while n < count {
-        one(n);
-        n += 1;
+fn main(rt: HostRuntime) -> io::Result<()> {
+    let errors = rt.stderr();
+    for n in 1..usize::MAX {
+        if !input::is_given(&rt, n) {
+            break;
+        }
+        one(&rt, &errors, n)?;
     }
+    Ok(())
 }

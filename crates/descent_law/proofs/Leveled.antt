@@ -1,6 +1,6 @@
 -- What words come to goes no deeper than the levels that were left for them.
 -- Assumes nothing.
-use mathlib.Core.Path.{◌≡◌, sym, subst}
+use mathlib.Core.Path.{sym, subst}
 use mathlib.Core.List.{List, [], ◌∷◌}
 use Prim.Native.Nat.{ℕ, zero, suc, ◌≤◌}
 use Rattle.ll1.specs.Grammar.{word, part, In, Out, Row, Grammar, row_at}

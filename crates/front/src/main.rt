@@ -1,59 +1,57 @@
 // What does a source say? `front` reads one on standard input; `front FILE..` reads each file, and writes its name first.
-use libc::STDOUT_FILENO;
+#![tactic(auto)]
+
 use source::Answer;
+use std::io;
+use std::io::{Input, Print};
+use std::rt::{Env, Files};
 
 // Text to standard output.
-fn text(s: &[u8]) {
-    io::write_all(STDOUT_FILENO, s);
+fn text(to: &impl Print, s: &[u8]) -> io::Result<()> {
+    to.write_all(s)
 }
 
 // What a source says: `good`, or `refused N at P`.
-fn answer(bytes: &[u8]) {
+fn answer(to: &impl Print, bytes: &[u8]) -> io::Result<()> {
     let answer = source::check(bytes);
     match answer {
-        Answer::Good => {
-            text(b"good\n");
-        }
-        Answer::Refused { number, place } => {
-            text(b"refused ");
-            io::print_decimal(STDOUT_FILENO, number as u64);
-            text(b" at ");
-            io::print_decimal(STDOUT_FILENO, place as u64);
-            text(b"\n");
-        }
+        Answer::Good => text(to, b"good\n"),
+        Answer::Refused { number, place } => { println!(to; "refused {number} at {place}") }
     }
 }
 
 // A source longer than the buffer is cut at 65,536 bytes, and refused with 3 as the whole would be.
-fn standard() {
-    let mut buffer = io::large_buffer();
-    let got = input::standard(&mut buffer);
-    answer(&buffer[..got]);
+fn standard(rt: &(impl Input + Print)) -> io::Result<()> {
+    let mut buffer = [0u8; 65536];
+    let got = input::standard(rt, &mut buffer);
+    answer(rt, &buffer[..got])
 }
 
 // .. and so is the file that argument n names.
-fn named(n: usize) {
-    let mut path = io::buffer();
-    let mut buffer = io::large_buffer();
-    let given = input::named(n, b"argument", &mut path, &mut buffer);
+fn named(rt: &(impl Env + Files + Print), errors: &impl Print, n: usize) -> io::Result<()> {
+    let mut path = [0u8; 4096];
+    let mut buffer = [0u8; 65536];
+    let given = input::named(rt, errors, n, b"argument", &mut path, &mut buffer);
     if given.found {
         let length = given.name;
         let got = given.bytes;
-        text(&path[..length]);
-        text(b": ");
-        answer(&buffer[..got]);
+        text(rt, &path[..length])?;
+        text(rt, b": ")?;
+        answer(rt, &buffer[..got])?;
     }
+    Ok(())
 }
 
-fn main() {
-    let count = os::arg_count();
-    if count < 2 {
-        standard();
-        return;
+fn main(rt: HostRuntime) -> io::Result<()> {
+    if !input::is_given(&rt, 1) {
+        return standard(&rt);
     }
-    let mut n: usize = 1;
-    while n < count {
-        named(n);
-        n += 1;
+    let errors = rt.stderr();
+    for n in 1..usize::MAX {
+        if !input::is_given(&rt, n) {
+            break;
+        }
+        named(&rt, &errors, n)?;
     }
+    Ok(())
 }

@@ -2,6 +2,8 @@
 ghost use Rattle.std.specs.Prelude.{◌≤◌, ◌<◌, length};
 
 use crate::show;
+use std::io;
+use std::io::Print;
 use words::{Next, Word, kinds};
 
 // No word.
@@ -30,18 +32,18 @@ fn none(source: &[u8]) -> Word
     }
 }
 
-fn word(source: &[u8], start: usize, end: usize)
+fn word(to: &impl Print, source: &[u8], start: usize, end: usize) -> io::Result<()>
     requires { (start ≤ end) × (end ≤ length source.now) }
 {
-    show::text(b" ");
-    show::text(&source[start..end]);
+    show::text(to, b" ")?;
+    show::text(to, &source[start..end])
 }
 
 // The program's own: its second word.
-pub fn own(source: &[u8]) {
+pub fn own(to: &impl Print, source: &[u8]) -> io::Result<()> {
     let first = word_from(source, 0);
     let name = word_from(source, first.end);
-    word(source, name.start, name.end);
+    word(to, source, name.start, name.end)
 }
 
 // The place behind `program NAME ;`.
@@ -71,7 +73,7 @@ fn last_of(kind: u8) -> u8 {
 }
 
 // Those that the declarations of that kind declare, or `-`. A declaration is open from its keyword up to its last word; behind a procedure a semicolon may stand.
-pub fn declared(source: &[u8], kind: u8) {
+pub fn declared(to: &impl Print, source: &[u8], kind: u8) -> io::Result<()> {
     let mut at = heading_end(source);
     let mut open = kinds::SEMICOLON;
     let mut some = false;
@@ -96,12 +98,12 @@ pub fn declared(source: &[u8], kind: u8) {
             continue;
         }
         if w.kind == kinds::NAME {
-            word(source, w.start, w.end);
+            word(to, source, w.start, w.end)?;
             some = true;
         }
     }
     if some {
-        return;
+        return Ok(());
     }
-    show::text(b" -");
+    show::text(to, b" -")
 }

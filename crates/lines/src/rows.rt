@@ -2,20 +2,23 @@
 use crate::show;
 use moves::Stands;
 use reader::Opened;
+use std::io;
+use std::io::Print;
 
 // The bits of the outputs, first declared lowest; `-` where there are none.
-fn bits(outputs: u32, count: u32) {
+fn bits(to: &impl Print, outputs: u32, count: u32) -> io::Result<()> {
     if count == 0 {
-        show::text(b" -");
+        show::text(to, b" -")?;
     }
     let mut rest = outputs;
     let mut left = count;
     while 0 < left {
-        show::text(b" ");
-        show::number(rest % 2);
+        show::text(to, b" ")?;
+        show::number(to, rest % 2)?;
         rest /= 2;
         left -= 1;
     }
+    Ok(())
 }
 
 fn outputs_of(file: &[u8], state: u32) -> u32 {
@@ -30,49 +33,47 @@ fn outputs_of(file: &[u8], state: u32) -> u32 {
 }
 
 // The next states, input by input up to the first that the table does not have.
-fn nexts(file: &[u8], state: u32) {
+fn nexts(to: &impl Print, file: &[u8], state: u32) -> io::Result<()> {
     let mut input: u32 = 0;
     while input < 64 {
         let stands = stepper::step(file, state, input);
         match stands {
             Stands::At { state, outputs: _ } => {
-                show::text(b" ");
-                show::number(state);
+                show::text(to, b" ")?;
+                show::number(to, state)?;
             }
             Stands::Refused {
                 number: _,
                 place: _,
             } => {
-                return;
+                return Ok(());
             }
         }
         input += 1;
     }
+    Ok(())
 }
 
-fn counted(file: &[u8], outputs: u32, states: u32) {
+fn counted(to: &impl Print, file: &[u8], outputs: u32, states: u32) -> io::Result<()> {
     let mut state: u32 = 0;
     while state < states {
-        show::number(state);
-        bits(outputs_of(file, state), outputs);
-        nexts(file, state);
-        show::text(b"\n");
+        show::number(to, state)?;
+        bits(to, outputs_of(file, state), outputs)?;
+        nexts(to, file, state)?;
+        show::text(to, b"\n")?;
         state += 1;
     }
+    Ok(())
 }
 
-pub fn all(file: &[u8]) {
+pub fn all(to: &impl Print, file: &[u8]) -> io::Result<()> {
     let opened = reader::open(file);
     match opened {
         Opened::Sound {
             inputs: _,
             outputs,
             states,
-        } => {
-            counted(file, outputs, states);
-        }
-        Opened::Refused { number, place } => {
-            show::refusal(number, place);
-        }
+        } => counted(to, file, outputs, states),
+        Opened::Refused { number, place } => show::refusal(to, number, place),
     }
 }

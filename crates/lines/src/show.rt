@@ -1,18 +1,19 @@
 // What the listing writes.
-use libc::STDOUT_FILENO;
+use std::io;
+use std::io::Print;
 
-pub fn text(s: &[u8]) {
-    io::write_all(STDOUT_FILENO, s);
+pub fn text(to: &impl Print, s: &[u8]) -> io::Result<()> {
+    to.write_all(s)
 }
 
-pub fn number(n: u32) {
-    io::print_decimal(STDOUT_FILENO, n as u64);
+pub fn number(to: &impl Print, n: u32) -> io::Result<()> {
+    to.print(n)
 }
 
-pub fn refusal(n: u32, place: u32) {
-    text(b"refused ");
-    number(n);
-    text(b" at ");
-    number(place);
-    text(b"\n");
+pub fn refusal(to: &impl Print, n: u32, place: u32) -> io::Result<()> {
+    text(to, b"refused ")?;
+    number(to, n)?;
+    text(to, b" at ")?;
+    number(to, place)?;
+    text(to, b"\n")
 }

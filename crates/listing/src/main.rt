@@ -1,7 +1,11 @@
 // The listing of a source on standard input, with room 256, or `refused N at P`.
+#![tactic(auto)]
+
 ghost use Rattle.std.specs.Prelude.{◌≡◌, length};
 
 use compiler::Compiled;
+use std::io;
+use std::io::Print;
 
 const ROOM: u32 = 256;
 
@@ -19,24 +23,22 @@ fn file_buffer() -> [u8; 34304]
 }
 
 // What is said of a source.
-fn answer(source: &[u8]) {
+fn answer(to: &impl Print, source: &[u8]) -> io::Result<()> {
     let mut work = work_area();
     let mut file = file_buffer();
     let compiled = compiler::compile(source, ROOM, &mut work, &mut file);
     match compiled {
         Compiled::Made { states, blocks } => {
             let end = 512 * blocks as usize;
-            lines::listing(source, &file[..end], states);
+            lines::listing(to, source, &file[..end], states)
         }
-        Compiled::Refused { number, place } => {
-            lines::refusal(number, place);
-        }
+        Compiled::Refused { number, place } => lines::refusal(to, number, place),
     }
 }
 
 // A longer source is cut at 65,536 bytes, and refused with 3 as the whole would be.
-fn main() {
-    let mut buffer = io::large_buffer();
-    let got = input::standard(&mut buffer);
-    answer(&buffer[..got]);
+fn main(rt: HostRuntime) -> io::Result<()> {
+    let mut buffer = [0u8; 65536];
+    let got = input::standard(&rt, &mut buffer);
+    answer(&rt, &buffer[..got])
 }

@@ -1,4 +1,6 @@
 // A step and a look inside a file of known sizes: the next state and its outputs, or why not.
+#![tactic(auto)]
+
 ghost use Rattle.std.specs.Prelude.{◌≡◌, ◌<◌};
 ghost use Rattle.file_law.specs.Reading.{stream_in};
 ghost use Rattle.file_law.specs.Stepping.{Sized, stand_answer, move_answer, look_answer};

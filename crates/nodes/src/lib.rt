@@ -4,6 +4,8 @@
 // A statement: kind, width (of the branch that begins here), place (2), end (2), end of that branch (2), four numbers
 // of 2 bytes. A list is a range of numbers: its first statement, and after a statement's end the next one.
 // A part: kind, width, place (2), two numbers of 2 bytes.
+#![tactic(auto)]
+
 ghost use Rattle.std.specs.Prelude.{◌≡◌, ℕ, ◌+◌, ◌*◌, ◌<◌, ◌≤◌, get_or};
 ghost use Rattle.nodes.specs.Layout.{half_at, node_base, part_base, sum_of, test_of, link_of, kind_of, kind_at, what_of, what_at, among_of, shape_of, width_at, looks_at, within, end_at, branch_end_at};
 

@@ -1,4 +1,6 @@
 // The table file, read: on any bytes, its sizes or why not.
+#![tactic(auto)]
+
 ghost use Rattle.std.specs.Prelude.{◌≡◌, ◌/◌, true, length};
 ghost use Rattle.file_law.specs.Answer.{gives, refuses, bad_length, bad_content, unless};
 ghost use Rattle.file_law.specs.Reading.{length_good, stream_in, content_good, sizes_in, open_answer};

@@ -1,60 +1,62 @@
 // What the runner writes.
-use libc::STDOUT_FILENO;
 use moves::Stands;
+use std::io;
+use std::io::Print;
 
-pub fn text(s: &[u8]) {
-    io::write_all(STDOUT_FILENO, s);
+pub fn text(to: &impl Print, s: &[u8]) -> io::Result<()> {
+    to.write_all(s)
 }
 
-fn number(n: u32) {
-    io::print_decimal(STDOUT_FILENO, n as u64);
+fn number(to: &impl Print, n: u32) -> io::Result<()> {
+    to.print(n)
 }
 
 // The bits of the outputs in declared order, first declared lowest; `-` where there are none.
-fn bits(outputs: u32, count: u32) {
+fn bits(to: &impl Print, outputs: u32, count: u32) -> io::Result<()> {
     if count == 0 {
-        text(b" -");
+        text(to, b" -")?;
     }
     let mut rest = outputs;
     let mut left = count;
     while 0 < left {
-        text(b" ");
-        number(rest % 2);
+        text(to, b" ")?;
+        number(to, rest % 2)?;
         rest /= 2;
         left -= 1;
     }
+    Ok(())
 }
 
-pub fn refusal(n: u32, place: u32) {
-    text(b"refused ");
-    number(n);
-    text(b" at ");
-    number(place);
-    text(b"\n");
+pub fn refusal(to: &impl Print, n: u32, place: u32) -> io::Result<()> {
+    text(to, b"refused ")?;
+    number(to, n)?;
+    text(to, b" at ")?;
+    number(to, place)?;
+    text(to, b"\n")
 }
 
-pub fn stands(stands: Stands, count: u32) {
+pub fn stands(to: &impl Print, stands: Stands, count: u32) -> io::Result<()> {
     match stands {
         Stands::At { state, outputs } => {
-            text(b": state ");
-            number(state);
-            text(b", outputs");
-            bits(outputs, count);
-            text(b"\n");
+            text(to, b": state ")?;
+            number(to, state)?;
+            text(to, b", outputs")?;
+            bits(to, outputs, count)?;
+            text(to, b"\n")
         }
         Stands::Refused { number, place } => {
-            text(b": ");
-            refusal(number, place);
+            text(to, b": ")?;
+            refusal(to, number, place)
         }
     }
 }
 
-pub fn sizes(inputs: u32, outputs: u32, states: u32) {
-    text(b"inputs ");
-    number(inputs);
-    text(b", outputs ");
-    number(outputs);
-    text(b", states ");
-    number(states);
-    text(b"\n");
+pub fn sizes(to: &impl Print, inputs: u32, outputs: u32, states: u32) -> io::Result<()> {
+    text(to, b"inputs ")?;
+    number(to, inputs)?;
+    text(to, b", outputs ")?;
+    number(to, outputs)?;
+    text(to, b", states ")?;
+    number(to, states)?;
+    text(to, b"\n")
 }

@@ -1,4 +1,6 @@
 // One step of a table file: a state number and the file's bytes in, the next state and its outputs out.
+#![tactic(auto)]
+
 ghost use Rattle.std.specs.Prelude.{◌≡◌};
 ghost use Rattle.file_law.specs.Stepping.{step_answer, outputs_answer, start_answer};
 ghost use Rattle.moves.specs.Meaning.{meaning};

@@ -1,4 +1,6 @@
 // The stream where it stands in the file: words of a row, and the sizes that say where rows begin.
+#![tactic(auto)]
+
 ghost use Rattle.std.specs.Prelude.{◌≡◌, ◌+◌, ◌*◌, ◌/◌, ◌%◌, ◌^◌, ◌≤◌, ◌<◌, length};
 ghost use Rattle.file_law.specs.Table.{most_inputs, most_states};
 ghost use Rattle.file_law.specs.Reading.{place, stream_in, row_at, outputs_at, next_at};

@@ -15,13 +15,13 @@ use Rattle.meaning.specs.Unexpanded.{Term, Command, Commands, end, Tests, Strand
 use Rattle.meaning.specs.Expansion.{allows_term, allows_target, allows, allows_all, allows_tests, allows_each}
 use Rattle.ll1.specs.Grammar.{row_at}
 use Rattle.ll1.specs.Values.{Values, Makes, make}
-use Rattle.ll1.proofs.Tests.{Claims, same_next, has, begin_row, pick}
+use Rattle.ll1.proofs.Tests.{same_next, has, begin_row, pick}
 use Rattle.ll1.proofs.Sets.{clash, and_left, and_right}
 use Rattle.language.specs.Words.{Kind, name, number, the, Word, bytes, same}
 use Rattle.language.specs.Grammar.{Part, Program, Declarations, Declaration, Inputs, MoreInputs, Ending, Booleans, MoreBooleans, BooleanStart, BooleanValue, Integers, MoreIntegers, IntegerStart, Statements, AfterStatement, NextStatement, Statement, Else, Cases, Branches, Target, Index, Procedure, Formals, FormalNames, MoreFormals, AfterProcedure, AfterName, Actuals, MoreActuals, Tier, Further, Line, ◌▸◌, ◌▹◌, ε, Strength, between, before, binding, tier, further, csml}
 use Rattle.language.specs.Trees.{Name, name_at, Val, Operator, operators, joined_by, name_or_bit, whole_or_part, makes_operators, makes_further, makes_tier, makes}
-use Rattle.language.proofs.Claims.{claims, first, empty, follow}
-use Rattle.descent_law.specs.Gives.{Giving, RowGives, Gives}
+use Rattle.language.proofs.Claims.{claims, follow}
+use Rattle.descent_law.specs.Gives.{RowGives, Gives}
 use Rattle.descent_law.specs.Told.{kind_of, Told, Called}
 use Rattle.descent_law.proofs.Given.{row_more}
 use Rattle.uses_law.proofs.Operators as quiet

@@ -1,4 +1,6 @@
 // The block writer of the table file: each block into its own 512 bytes of the lent buffer.
+#![tactic(auto)]
+
 ghost use Rattle.std.specs.Prelude.{◌≡◌, ◌+◌, ◌≤◌, length, get_or};
 ghost use Rattle.file_law.specs.Bytes.{low2, low4, patch};
 ghost use Rattle.file_law.specs.File.{piece_of, block_of, with_block};

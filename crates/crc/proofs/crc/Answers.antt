@@ -2,7 +2,6 @@
 -- Assumes nothing.
 use mathlib.Core.Path.{refl, ap}
 use Prim.Native.Nat.{ℕ, ◌-◌}
-use borrow.Author.Rules.{rules}
 use Rattle.crc_law.specs.Crc.{ones, step_bit, step_bits, crc_of}
 use Rattle.crc.proofs.Rule.{tested}
 use Rattle.crc.proofs.crc.Goals as goal

@@ -4,7 +4,6 @@ use mathlib.Core.Path.{sym, ap, ◌∙◌}
 use Prim.Native.Nat.{ℕ, ◌/◌, ◌%◌}
 use native.Mathlib.Omega.{arith}
 use lib.Bits.{bit_xor}
-use borrow.Author.Rules.{rules}
 use Rattle.crc_law.specs.Crc.{step_byte}
 use Rattle.crc_law.proofs.Step.{step_bits-split}
 use Rattle.crc.proofs.next.Goals as goal

@@ -1,13 +1,13 @@
 -- `crc::over` meets its contract. The loop's invariant: the register at i, taken over the bytes that are left, ends where the whole does.
 -- Assumes nothing.
 use mathlib.Core.Path.{◌≡◌, refl, sym, ap, ◌∙◌}
-use Prim.Native.Nat.{ℕ, ◌+◌, ◌-◌, ◌≤◌, ◌<◌}
+use Prim.Native.Nat.{ℕ, ◌+◌, ◌≤◌, ◌<◌}
 use native.Mathlib.Numerals.{add-one}
 use native.Mathlib.Omega.{arith}
 use mathlib.Core.List.{List, ◌∷◌}
 use lib.ListN.{length, get_or, drop, drop_of_length-le}
 use lib.Seq.{drop-cons}
-use Rattle.crc_law.specs.Crc.{ones, step_byte, register}
+use Rattle.crc_law.specs.Crc.{step_byte, register}
 use Rattle.crc.proofs.over.Goals as goal
 
 more : (s : List ℕ) (r i : ℕ) → i < length s → register r (drop i s) ≡ register (step_byte r (get_or s i 0)) (drop (i + 1) s)

@@ -1,13 +1,9 @@
 -- `crc::over` meets its contract. The loop's invariant: the register at i, taken over the bytes that are left, ends where the whole does.
 -- Assumes nothing.
-use mathlib.Core.Path.{◌≡◌, refl, sym, ap, ◌∙◌}
-use Prim.Native.Nat.{ℕ, ◌+◌, ◌-◌, ◌≤◌, ◌<◌}
-use native.Mathlib.Numerals.{add-one}
-use native.Mathlib.Omega.{arith}
-use mathlib.Core.List.{List, ◌∷◌}
-use lib.ListN.{length, get_or, drop, drop_of_length-le}
-use lib.Seq.{drop-cons}
-use Rattle.crc_law.specs.Crc.{ones, step_byte, register}
+use mathlib.Core.Path.{◌≡◌}
+use Prim.Native.Nat.{◌-◌, ◌≤◌}
+use lib.ListN.{length, drop}
+use Rattle.crc_law.specs.Crc.{ones, register}
 use Rattle.crc.proofs.over.Given as goal
 
 abbrev pub invariant-loop-i : goal.invariant-loop-i

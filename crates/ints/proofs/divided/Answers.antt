@@ -1,0 +1,15 @@
+use mathlib.Core.Path.{◌∙◌}
+use native.Mathlib.Omega.{arith}
+use native.Mathlib.Nat.{pos_of_ne-zero}
+use lib.Signed.{quot_z}
+use Rattle.ints.proofs.Laws.{two_fits, two_is, abs_quot, quot-some, zero_bits}
+use Rattle.ints.proofs.divided.Goals as goal
+
+pub nonzero_div-result : goal.nonzero_div-result
+nonzero_div-result c = (omega (arith, pos_of_ne-zero c.if-b-eq0.false), two_fits quot_z c.args.a c.args.b c.ranges.a c.ranges.b (omega (arith, abs_quot c.args.a c.args.b)))
+
+pub returns-then-b-eq0 : goal.returns-then-b-eq0
+returns-then-b-eq0 c = rw (zero_bits _ c.ranges.b c.if-b-eq0.true)
+
+pub returns-else-b-eq0 : goal.returns-else-b-eq0
+returns-else-b-eq0 c = two_is quot_z c.args.a c.args.b c.ranges.a c.ranges.b (omega (arith, abs_quot c.args.a c.args.b)) ∙ quot-some c.args.a c.args.b c.if-b-eq0.false

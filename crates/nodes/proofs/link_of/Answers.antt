@@ -1,0 +1,13 @@
+use mathlib.Core.Path.{◌≡◌, refl, sym, ◌∙◌}
+use Prim.Native.Nat.{ℕ, zero, suc}
+use Rattle.nodes.specs.Layout.{link_of}
+use Rattle.nodes.specs.declared.Link.TheVariants.{Or}
+use borrow.Author.Rules.{rules}
+use Rattle.nodes.proofs.link_of.Goals as goal
+
+other : (n : ℕ) → (n ≡ 0 → ⊥) → Or ≡ link_of n
+other zero h0 = absurd (h0 refl)
+other (suc n) h0 = refl
+
+pub returns-in_default : goal.returns-in_default
+returns-in_default c = other _ c.in_default.in_default-own.rest.1

@@ -1,0 +1,9 @@
+use mathlib.Core.Path.{◌≡◌, refl, sym, ◌∙◌}
+use Prim.Native.Nat.{ℕ, zero, suc}
+use Rattle.nodes.specs.Layout.{kind_at}
+use borrow.Author.Rules.{rules}
+use Rattle.nodes.proofs.part_at.Goals as goal
+
+pub returns : goal.returns
+unfolding kind_at
+returns c = rw (c.half_at-place.ensures, c.kind_of.ensures, c.half_at-a.ensures, c.half_at-b.ensures)
