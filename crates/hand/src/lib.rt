@@ -1,4 +1,6 @@
 // The word in hand: the next word of a text from a place on, as the readers of the second pass take it.
+#![tactic(auto)]
+
 ghost use Rattle.std.specs.Prelude.{◌≤◌, length};
 ghost use Rattle.hand.specs.Along.{Begins};
 

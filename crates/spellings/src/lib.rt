@@ -1,4 +1,6 @@
 // The table of spellings: which reserved word a run is, and which sign stands at a place. The first byte leaves few to compare.
+#![tactic(auto)]
+
 ghost use Rattle.std.specs.Prelude.{◌≡◌, ◌-◌, ◌<◌, ◌≤◌, length, get_or, drop};
 ghost use Rattle.file_law.specs.Answer.{first_not};
 ghost use Rattle.language.specs.Scan.{begins};

@@ -12,7 +12,7 @@ use lib.ListN.{length, get_or, get_elem?, get_or-eq_default}
 use borrow.Author.Tests.{eqb-true, eqb-false, not-true}
 use Rattle.ll1.proofs.Tests.{has, begin_row, pick}
 use Rattle.ll1.proofs.Sets.{clash}
-use Rattle.language.specs.Words.{Kind, the, signs, reserved, bytes, same}
+use Rattle.language.specs.Words.{Kind, the, signs, reserved}
 use Rattle.language.specs.Grammar.{Tier, Further, Strength, between, before, binding, csml}
 use Rattle.language.proofs.EveryPart.{past}
 use Rattle.language.proofs.Claims.{claims, first, empty, follow, same_kind, same_true, same_self}

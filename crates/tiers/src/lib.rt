@@ -1,4 +1,6 @@
 // The tiers of an expression: how the operators of each strength stand; and which row of an operand or a statement a word calls for, by the number of its kind.
+#![tactic(auto)]
+
 ghost use Rattle.std.specs.Prelude.{◌≡◌};
 ghost use Rattle.std.proofs.Math.ListN.{get_elem?};
 ghost use Rattle.language.specs.Grammar.{binding};

@@ -9,7 +9,7 @@ use lib.ListN.{length, take, drop, length-drop}
 use lib.Seq.{length-take-le}
 use lib.Dec.{eqb}
 use borrow.Author.Tests.{eq-eqb, ne_eqb}
-use Rattle.language.specs.Words.{Word, word_at, kind_of, too_large, in_blanks, words, before}
+use Rattle.language.specs.Words.{Word, word_at, kind_of, too_large, in_blanks, before}
 use Rattle.language.specs.Scan as Scan
 use Rattle.language.specs.Scan.{span, word_length, found, stops, over, next_at, past_blanks, next_word, behind, follow, words_from}
 use Rattle.language.proofs.Longest.{Takes, longest_taken}

@@ -1,4 +1,6 @@
 // The words of a text: the next one from a place on, and refusal 4.
+#![tactic(auto)]
+
 ghost use Rattle.std.specs.Prelude.{◌≡◌, true, false, ◌<◌, length, get_or};
 ghost use Rattle.language.specs.Words.{letter, digit, same};
 ghost use Rattle.language.specs.Scan.{words_from, words_of};

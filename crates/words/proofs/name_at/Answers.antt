@@ -1,0 +1,26 @@
+-- `words::name_at` meets its contract.
+-- Assumes nothing.
+use native.Mathlib.Omega.{arith}
+use Rattle.words.proofs.NameLaws.{name-some, name-inside, reserved-word, name-short, name-long}
+use Rattle.words.proofs.name_at.Goals as goal
+
+pub reserved-k-requires : goal.reserved-k-requires
+reserved-k-requires c =
+    let a = c.args in
+    (name-some a.s.now a.at c.requires.0 c.requires.1 _ c.name_end-end.ensures, name-inside a.s.now a.at c.requires.0 c.requires.1 _ c.name_end-end.ensures)
+
+pub returns-then-k-lt-SPELLINGS : goal.returns-then-k-lt-SPELLINGS
+returns-then-k-lt-SPELLINGS c =
+    reserved-word c.args.s.now c.args.at c.requires.0 c.requires.1 _ c.name_end-end.ensures _ c.reserved-k.ensures (omega arith)
+
+pub overflow_sub-end : goal.overflow_sub-end
+overflow_sub-end c =
+    omega (arith, name-some c.args.s.now c.args.at c.requires.0 c.requires.1 _ c.name_end-end.ensures)
+
+pub returns-then-end-at-le16 : goal.returns-then-end-at-le16
+returns-then-end-at-le16 c =
+    name-short c.args.s.now c.args.at c.requires.0 c.requires.1 _ c.name_end-end.ensures _ c.reserved-k.ensures (omega arith) (omega arith)
+
+pub returns : goal.returns
+returns c =
+    name-long c.args.s.now c.args.at c.requires.0 c.requires.1 _ c.name_end-end.ensures _ c.reserved-k.ensures (omega arith) (omega arith)
