@@ -7,7 +7,7 @@ ghost use Rattle.hand.specs.Along.{Begins};
 use words::Next;
 
 // The word to be read next: its kind's number (255 at the end), its place, the place behind it, and a number's value.
-#[derive(Drop)]
+#[derive(Clone, Copy)]
 pub struct Here {
     pub kind: u8,
     pub place: u16,

@@ -15,7 +15,7 @@ pub mod counts;
 mod single;
 
 // The word behind an expression, and its parts and levels, counted no further than one too many.
-#[derive(Drop)]
+#[derive(Clone, Copy)]
 pub struct Extent {
     pub word: Here,
     pub parts: u16,
