@@ -1,4 +1,6 @@
 // The clocks of a source for C: where does a sequence of inputs lead?
+#![tactic(auto)]
+
 ghost use Rattle.std.specs.Prelude.{◌≡◌, ◌%◌, length};
 ghost use Rattle.nodes.specs.Ready.{Ready};
 ghost use Rattle.clock_c.specs.Ran.{Ran, RunsTo};

@@ -1,4 +1,6 @@
 // Reading a source for C: what does it say?
+#![tactic(auto)]
+
 ghost use Rattle.std.specs.Prelude.{◌≡◌};
 ghost use Rattle.language.specs.Scan.{words_of};
 ghost use Rattle.words.specs.Meaning.{stop_of};
