@@ -6,14 +6,14 @@ use lib.Pow.{pow_mono}
 use Rattle.rows.proofs.Changes.{lt_or_ge}
 use mathlib.Core.List.{List, [], ◌∷◌, ◌++◌}
 use Prim.Native.Nat.{ℕ, zero, suc, ◌+◌, ◌-◌, ◌*◌, ◌/◌, ◌%◌, ◌^◌, ◌<◌, ◌≤◌}
-use lib.ListN.{length, get_or, set, length-set, length-append, get_or-eq_default}
+use lib.ListN.{length, get_or, set, length-set, get_or-eq_default}
 use lib.Seq.{ext_get_or, get_or-set_same, get_or-set_other}
 use lib.Arith.{digits_div, digits_mod, digits_lt}
 use native.Mathlib.Omega.{arith}
-use native.Mathlib.Nat.{eq-or-lt_of_le, mod-lt, div-add-mod', mul-le-mul_left, mul-le-mul_right}
+use native.Mathlib.Nat.{eq-or-lt_of_le, mod-lt, div-add-mod', mul-le-mul_right}
 use Rattle.file_law.specs.Answer.{listed}
 use Rattle.file_law.specs.Bytes.{low2}
-use Rattle.file_law.specs.Table.{Row, Table}
+use Rattle.file_law.specs.Table.{Row}
 use Rattle.file_law.specs.File.{words, row_bytes, rows_bytes, stream_of}
 use Rattle.file_law.proofs.Every.{length-listed, get_or-listed}
 use Rattle.file_law.proofs.Listed.{listed-append}

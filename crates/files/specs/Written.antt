@@ -3,7 +3,7 @@
 use Rattle.std.specs.Prelude.{◌≡◌, List, ◌++◌, ℕ, ◌+◌, ◌*◌, ◌/◌, ◌%◌, ◌^◌, ◌<◌, ◌≤◌, length, get_or, drop}
 use Rattle.file_law.specs.Answer.{listed}
 use Rattle.file_law.specs.Table.{Row, Table, most_inputs, most_outputs, most_states}
-use Rattle.file_law.specs.File.{stream_of, file_of}
+use Rattle.file_law.specs.File.{stream_of}
 use Rattle.rows.specs.Area.{nexts_at, row_in, next_in}
 use Rattle.files.specs.declared.Filed.{Filed}
 use Rattle.files.specs.declared.Filed.TheVariants.{Blocks, Short}

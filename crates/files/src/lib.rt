@@ -1,4 +1,6 @@
 // The table file of what the search found, block by block into the lent buffer.
+#![tactic(auto)]
+
 ghost use Rattle.std.specs.Prelude.{◌≡◌, ℕ, ◌+◌, ◌*◌, ◌/◌, ◌%◌, ◌^◌, ◌≤◌, ◌<◌, length, get_or, drop};
 ghost use Rattle.file_law.specs.File.{block_count, file_of, with_block};
 ghost use Rattle.file_law.specs.Table.{most_outputs, most_states};

@@ -1,15 +1,14 @@
 -- The index: a walk that ends at an empty slot has met no such state, and a state put in there is found from then on.
 -- Assumes nothing.
-use mathlib.Core.Path.{◌≡◌, refl, sym, ap, ◌∙◌}
+use mathlib.Core.Path.{◌≡◌, sym, ap, ◌∙◌}
 use mathlib.Core.Logic.{◌⊎◌, inl, inr}
 use mathlib.Core.List.{List}
-use Prim.Native.Nat.{ℕ, ◌+◌, ◌*◌, ◌-◌, ◌<◌, ◌≤◌}
-use lib.ListN.{length, get_or}
+use Prim.Native.Nat.{ℕ, ◌+◌, ◌*◌, ◌<◌, ◌≤◌}
 use native.Mathlib.Omega.{arith}
 use native.Mathlib.Nat.{eq-or-lt_of_le}
 use Rattle.file_law.specs.Bytes.{word2, bytes_of}
 use Rattle.clock.specs.declared.State.{State}
-use Rattle.rows.specs.Area.{homes, slots, most_rows, rows_at, nexts_at, slot_in, row_at, row_in, next_at, next_in, hash_of, Changed}
+use Rattle.rows.specs.Area.{homes, slots, most_rows, slot_in, row_at, row_in, next_at, next_in, hash_of, Changed}
 use Rattle.index.specs.Indexed.{Stands, Indexed, Free, Added}
 use Rattle.rows.proofs.Changes.{one_below, lt_or_ge, word2-before, word2-behind}
 use Rattle.rows.proofs.Rows.{row_before, row-behind}

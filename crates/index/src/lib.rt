@@ -1,4 +1,6 @@
 // The index of a search's states, in lent bytes: a state is looked for from its hash on, slot by slot, up to the first empty one.
+#![tactic(auto)]
+
 ghost use Rattle.std.specs.Prelude.{◌≡◌, ◌*◌, ◌≤◌, ◌<◌, length};
 ghost use Rattle.rows.specs.Area.{homes, most_rows, nexts_at, hash_of};
 ghost use Rattle.index.specs.Indexed.{Indexed, Free, Looked, Added};

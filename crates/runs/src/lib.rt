@@ -11,7 +11,7 @@ ghost use Rattle.runs.specs.Run.{How, Run, entry_from, window, least_from, least
 ghost use Rattle.runs.specs.Buffer.{packed, unpacked, entries_in, mask_in, number, gathers, Holds, Comes, Looked, Open, Wiped};
 
 // Where an activity stands: the number of a statement or case test plus 1, or 0, and the clocks left of a delay.
-#[derive(Drop)]
+#[derive(Clone, Copy)]
 pub struct Entry {
     pub place: u16,
     pub left: u8,

@@ -1,4 +1,6 @@
 // Lent bytes, all zero at the end.
+#![tactic(auto)]
+
 ghost use Rattle.std.specs.Prelude.{◌≡◌, length, replicate};
 
 // The whole area, zeroed.
