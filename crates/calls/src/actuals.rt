@@ -8,7 +8,7 @@ use frames::{Under, put};
 use hand::Here;
 
 // The word behind the actuals, and how many there are.
-#[derive(Drop)]
+#[derive(Clone, Copy)]
 pub struct Handing {
     pub word: Here,
     pub count: u16,

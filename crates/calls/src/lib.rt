@@ -11,7 +11,7 @@ pub mod actuals;
 mod room;
 
 // The word behind a call; whether it is expanded, and then under what its body is read, and that one's first word.
-#[derive(Drop)]
+#[derive(Clone, Copy)]
 pub struct Entered {
     pub word: Here,
     pub ok: bool,

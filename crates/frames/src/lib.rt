@@ -1,4 +1,6 @@
 // The calls that are open while a body is read: their frames, and the procedures that can be called, in the bytes behind the tree.
+#![tactic(auto)]
+
 ghost use Rattle.std.specs.Prelude.{◌≡◌};
 ghost use Rattle.frames_law.specs.Frames.{told_at};
 
@@ -9,7 +11,7 @@ pub mod list;
 pub mod put;
 
 // Under which call a text is read: the place told (65,535: the word's own), the frame, how many calls are open, how many procedures can be called, and where the next frame is written.
-#[derive(Drop)]
+#[derive(Clone, Copy)]
 pub struct Under {
     pub at: u16,
     pub frame: u16,
@@ -19,14 +21,14 @@ pub struct Under {
 }
 
 // The parts and the levels of an actual, counted no further than one too many.
-#[derive(Drop)]
+#[derive(Clone, Copy)]
 pub struct Sizes {
     pub parts: u16,
     pub levels: u8,
 }
 
 // What a name stands for where it is changed or indexed: a name from a to b, bit j of it, or neither.
-#[derive(Drop)]
+#[derive(Clone, Copy)]
 pub enum Meant {
     Name { a: u16, b: u16 },
     Bit { a: u16, b: u16, j: u16 },

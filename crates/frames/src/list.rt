@@ -11,7 +11,7 @@ ghost use Rattle.frames.specs.Meant.{placed};
 use words::Next;
 
 // A word of a list: whether it is a name, whether it is a comma, where it starts and ends, and where to go on.
-#[derive(Drop)]
+#[derive(Clone, Copy)]
 pub struct Listed {
     pub name: bool,
     pub comma: bool,
@@ -21,7 +21,7 @@ pub struct Listed {
 }
 
 // The formals counted, and the place behind the `)`.
-#[derive(Drop)]
+#[derive(Clone, Copy)]
 pub struct Heading {
     pub count: u16,
     pub body: usize,

@@ -13,14 +13,14 @@ use native.Mathlib.Omega.{arith}
 use lib.Dec.{eqb}
 use lib.ListN.{length, get_or, get_elem?}
 use borrow.Author.Tests.{eqb-true}
-use Rattle.meaning.specs.Unexpanded.{Term, literal, variable, bit}
-use Rattle.meaning.specs.Expansion.{Form, neither, form_of}
+use Rattle.meaning.specs.Unexpanded.{Term, literal}
+use Rattle.meaning.specs.Expansion.{neither, form_of}
 use Rattle.ll1.specs.Values.{Values, make}
 use Rattle.ll1.proofs.Tests.{has, begin_row, pick}
 use Rattle.ll1.proofs.Sets.{clash}
-use Rattle.language.specs.Words.{Kind, name, number, the, Word, bytes, same, signs, reserved}
-use Rattle.language.specs.Grammar.{Part, Tier, Further, Index, ◌▸◌, ◌▹◌, ε, Line, Strength, between, before, binding, further, csml}
-use Rattle.language.specs.Trees.{name_at, number_at, Val, Operator, operators, joined_by, name_or_bit, makes_operators, makes_further, makes}
+use Rattle.language.specs.Words.{name, number, Word, bytes, same, signs, reserved}
+use Rattle.language.specs.Grammar.{Tier, Further, Index, ◌▸◌, ◌▹◌, ε, Line, Strength, between, before, binding, further, csml}
+use Rattle.language.specs.Trees.{Val, Operator, operators, joined_by, makes_operators, makes_further, makes}
 use Rattle.language.proofs.Claims.{claims, first, empty, follow}
 use Rattle.words.specs.Kinds.{spellings, numbered, kind_count}
 use Rattle.descent_law.specs.Gives.{RowGives, Gives}

@@ -7,7 +7,7 @@ use frames::{Under, area, find};
 use hand::Here;
 
 // The word behind the call; whether its expansion passes a size by itself, and then its activities; if it passes none, whether it opens a level too many where it stands.
-#[derive(Drop)]
+#[derive(Clone, Copy)]
 pub struct Gauged {
     pub word: Here,
     pub over: bool,

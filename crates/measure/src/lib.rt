@@ -11,7 +11,7 @@ use tally::Tally;
 mod single;
 
 // The word behind what was read, and what is counted up to there.
-#[derive(Drop)]
+#[derive(Clone, Copy)]
 pub struct Counted {
     pub word: Here,
     pub tally: Tally,
@@ -319,7 +319,7 @@ fn branches(
 }
 
 // An outermost call: the word behind it, whether its expansion passes a size where it stands, whether that has a statement or a part too many, and if not, its activities.
-#[derive(Drop)]
+#[derive(Clone, Copy)]
 pub struct Measured {
     pub word: Here,
     pub over: bool,

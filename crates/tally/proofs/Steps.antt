@@ -15,7 +15,7 @@ use Rattle.meaning.specs.Levels.{most_levels, levels_in}
 use Rattle.meaning.specs.Unexpanded.{Term}
 use Rattle.meaning.specs.Base.{base_term}
 use Rattle.own_law.specs.Own.{Own, past, begun, closed, opened, if_large, own_term}
-use Rattle.own_law.proofs.Borne.{made, bears, small, Sound}
+use Rattle.own_law.proofs.Borne.{made, bears, Sound}
 use Rattle.own_law.proofs.Own.{term_adds}
 use Rattle.own_law.proofs.Early.{Stays, begun_stays, closed_stays, opened_stays, large_stays, term_stays}
 use Rattle.tally.specs.declared.Tally.{Tally}

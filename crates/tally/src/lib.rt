@@ -1,9 +1,11 @@
 // Sizes counted since an outermost call, no further than one too many: statements and parts, whether another size is passed, and activities.
+#![tactic(auto)]
+
 ghost use Rattle.std.specs.Prelude.{◌≡◌};
 ghost use Rattle.tally.specs.Tally.{start_tally, begun_tally, parted_tally, marked_tally, deep_tally, term_tally, full_tally, none_left, over_tally, acts_tally, summed_tally, together_tally};
 
 // `large`: a delay, a parallel or a level is too much. `passed`: a statement or a part is too many, and nothing else is known.
-#[derive(Drop)]
+#[derive(Clone, Copy)]
 pub struct Tally {
     pub statements: u16,
     pub parts: u16,

@@ -11,14 +11,14 @@ mod counts;
 mod put;
 
 // A list of statements: the word that ends it, and its activities.
-#[derive(Drop)]
+#[derive(Clone, Copy)]
 pub struct Counted {
     pub word: Here,
     pub acts: u8,
 }
 
 // The parentheses of a call: the word behind them, and how many actuals stand in them.
-#[derive(Drop)]
+#[derive(Clone, Copy)]
 pub struct Passed {
     pub word: Here,
     pub count: u16,
