@@ -1,4 +1,6 @@
 // Nodes written into lent bytes when a statement or a branch ends.
+#![tactic(auto)]
+
 ghost use Rattle.std.specs.Prelude.{◌≡◌, ◌≤◌, ◌+◌, length};
 ghost use Rattle.items.specs.Walk.{set_half, put_node, put_branch, end_for};
 ghost use Rattle.items.specs.Came.{Finished, Branched};
