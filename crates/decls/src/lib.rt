@@ -1,4 +1,6 @@
 // Declarations read from a text: an entry a declared name and a row a procedure in lent bytes, and what is noted of them.
+#![tactic(auto)]
+
 ghost use Rattle.std.specs.Prelude.{◌≡◌, ◌≤◌, length};
 ghost use Rattle.decls.specs.Came.{Ready, OutputsCame, EnterCame, Came};
 

@@ -1,4 +1,6 @@
 // Statements as they are read: the structs, and the small steps of what is noted of them.
+#![tactic(auto)]
+
 ghost use Rattle.std.specs.Prelude.{◌≡◌};
 ghost use Rattle.items.specs.Under.{inside_at};
 

@@ -1,7 +1,7 @@
 -- Statements that the clock can run: expressions that fit, bits of the word, delays in a byte, and the widths of branches and the inputs of expressions stored right.
 -- Assumes nothing.
-use Rattle.std.specs.Prelude.{◌≡◌, ℕ, zero, suc, ◌+◌, ◌<◌, ◌≤◌, true, false}
-use Rattle.meaning.specs.Tree.{Expr, Target, Stmt, skip, delay, change, assign, choice, while, loop, exit, break, switch, parallel, Stmts, end, ◌⨾◌, Cases, default, case, Branches, none, ◌∥◌}
+use Rattle.std.specs.Prelude.{◌≡◌, ℕ, ◌+◌, ◌<◌, ◌≤◌, true, false}
+use Rattle.meaning.specs.Tree.{Expr, Stmt, skip, delay, change, assign, choice, while, loop, exit, break, switch, parallel, Stmts, end, ◌⨾◌, Cases, default, case, Branches, none, ◌∥◌}
 use Rattle.meaning.specs.Numbers.{Variable, input, boolean, integer}
 use Rattle.meaning.specs.Tries.{bit_at}
 use Rattle.meaning.specs.Clock.{head_of, activities_all}

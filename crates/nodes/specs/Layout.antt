@@ -1,5 +1,5 @@
 -- How the nodes of a tree lie in the bytes.
-use Rattle.std.specs.Prelude.{ℕ, zero, suc, ◌+◌, ◌*◌, ◌%◌, Bool, true, false, cond, List, leb, ltb, get_or}
+use Rattle.std.specs.Prelude.{ℕ, zero, suc, ◌+◌, ◌*◌, ◌%◌, true, false, cond, List, leb, ltb, get_or}
 use Rattle.nodes.specs.declared.Sum.{Sum}
 use Rattle.nodes.specs.declared.Sum.TheVariants.{Plus, Minus, Times, Quotient, Remainder}
 use Rattle.nodes.specs.declared.Test as declared
@@ -9,7 +9,6 @@ use Rattle.nodes.specs.declared.Link.TheVariants.{And, Or}
 use Rattle.nodes.specs.declared.Kind.{Kind}
 use Rattle.nodes.specs.declared.Kind.TheVariants.{Literal, Truth, Input, Boolean, Integer, Bit, Not, Int, Arithmetic, Comparison, Logic}
 use Rattle.nodes.specs.declared.Change.TheVariants.{Raise, Lower, Invert}
-use Rattle.nodes.specs.declared.Target.{Target}
 use Rattle.nodes.specs.declared.Among.{Among}
 use Rattle.nodes.specs.declared.Among.TheVariants.{Test, Default}
 use Rattle.nodes.specs.declared.Shape.{Shape}

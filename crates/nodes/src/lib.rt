@@ -9,7 +9,7 @@
 ghost use Rattle.std.specs.Prelude.{◌≡◌, ℕ, ◌+◌, ◌*◌, ◌<◌, ◌≤◌, get_or};
 ghost use Rattle.nodes.specs.Layout.{half_at, node_base, part_base, sum_of, test_of, link_of, kind_of, kind_at, what_of, what_at, among_of, shape_of, width_at, looks_at, within, end_at, branch_end_at};
 
-#[derive(Drop)]
+#[derive(Clone, Copy)]
 pub enum Sum {
     Plus,
     Minus,

@@ -3,6 +3,8 @@
 //
 // How a statement ends is a small number: 0 finished, 1 `exit`, 2 `break`, 3 it waits and has finished then, 4 it waits and
 // stands somewhere then.
+#![tactic(auto)]
+
 ghost use Rattle.std.specs.Prelude.{◌≡◌, List, ℕ, ◌+◌, ◌*◌, ◌<◌, ◌≤◌, length, set, get_or};
 ghost use Rattle.meaning.specs.Clock.{waits, done, left_of, nowhere};
 ghost use Rattle.runs.specs.Run.{How, Run, entry_from, window, least_from, least_of, run, then_run, looped_run, caught_run, closed_run, latest, is_jump};

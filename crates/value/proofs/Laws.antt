@@ -1,13 +1,13 @@
 -- Values as whole numbers, and their sizes.
 use mathlib.Core.Path.{◌≡◌, refl, sym, ap, ◌∙◌}
-use mathlib.Core.Bool.{Bool, true, false, cond, not as opposite}
+use mathlib.Core.Bool.{Bool, true, false, not as opposite}
 use mathlib.Core.List.{List}
-use Prim.Native.Nat.{ℕ, zero, suc, ◌+◌, ◌-◌, ◌*◌, ◌/◌, ◌%◌, ◌≤◌, ◌<◌, ◌^◌}
+use Prim.Native.Nat.{ℕ, zero, suc, ◌+◌, ◌*◌, ◌/◌, ◌%◌, ◌≤◌, ◌<◌, ◌^◌}
 use native.Mathlib.Nat.{le_refl, le_trans, mul-le-mul, mod-lt, mod-eq_of_lt, one-mul}
 use native.Mathlib.Omega.{arith}
 use lib.Dec.{ltb}
 use borrow.Author.Tests.{le-ltb}
-use lib.IntN.{ℤ, pos, negsuc, neg_ℤ, nat_abs, ◌+ℤ◌, ◌-ℤ◌, +ℤ_assoc, +ℤ_idl, +ℤ_idr}
+use lib.IntN.{ℤ, pos, negsuc, neg_ℤ, nat_abs, ◌+ℤ◌, +ℤ_assoc, +ℤ_idl}
 use lib.Pow.{pow_pos, le_ones, pow_mono}
 use lib.Signed.{mag, lt_z}
 use mir.Syntax.{w64}
@@ -25,7 +25,6 @@ use Rattle.nodes.specs.declared.Sum.{Sum}
 use Rattle.nodes.specs.declared.Sum.TheVariants.{Plus, Minus, Times, Quotient, Remainder}
 use Rattle.nodes.specs.declared.Kind.{Kind}
 use Rattle.nodes.specs.declared.Kind.TheVariants as kinds
-use Rattle.value.specs.declared.Term.{Term}
 use Rattle.value.specs.declared.Term.TheVariants.{Added, Other}
 use Rattle.value.specs.Flat.{flat, truth_of, compare_z, decides}
 use Rattle.value.specs.Leaf.{is_leaf, Leaf, leaf_of}

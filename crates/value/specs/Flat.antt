@@ -1,6 +1,6 @@
 -- Values as one whole number.
 -- Assumes nothing.
-use Rattle.std.specs.Prelude.{ℕ, zero, suc, Bool, true, false, not as opposite, ℤ, pos, negsuc}
+use Rattle.std.specs.Prelude.{zero, suc, Bool, true, false, not as opposite, ℤ, pos, negsuc}
 use Rattle.std.specs.Int.Signed.{lt_z}
 use Rattle.meaning.specs.Tree.{Comparison, equal, unequal, greater, less, Logic, and, or}
 use Rattle.meaning.specs.Numbers.{Value, whole, bool, same_whole, as_number}

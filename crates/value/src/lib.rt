@@ -1,4 +1,6 @@
 // The value of an expression of the tree, as a whole number: a truth is 1 or 0.
+#![tactic(auto)]
+
 ghost use Rattle.std.specs.Prelude.{◌≡◌, ℕ, ◌+◌, ◌<◌, ◌≤◌, ◌^◌, ◌/◌, ◌%◌, true, not as opposite, ℤ, pos, nat_abs, ◌+ℤ◌};
 ghost use Rattle.meaning.specs.Numbers.{bit_of, as_number, same_whole, compute, value};
 ghost use Rattle.meaning.specs.Worst.{combined};

@@ -1,4 +1,3 @@
-use borrow.Author.Rules.{rules}
 use Rattle.nodes.proofs.among_of.Goals as goal
 
 pub returns-in-Case : goal.returns-in-Case

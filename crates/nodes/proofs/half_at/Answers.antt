@@ -1,5 +1,4 @@
 use Rattle.nodes.specs.Layout.{half_at}
-use borrow.Author.Rules.{rules}
 use Rattle.nodes.proofs.half_at.Goals as goal
 
 pub returns : goal.returns

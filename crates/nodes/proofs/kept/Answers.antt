@@ -1,6 +1,5 @@
 use borrow.Author.Tests.{le-leb, lt-leb, lt-ltb, le-ltb}
 use Rattle.nodes.specs.Layout.{within}
-use borrow.Author.Rules.{rules}
 use Rattle.nodes.proofs.kept.Goals as goal
 
 pub returns-then-m-i : goal.returns-then-m-i

@@ -1,8 +1,7 @@
-use mathlib.Core.Path.{◌≡◌, refl, sym, ◌∙◌}
+use mathlib.Core.Path.{◌≡◌, refl}
 use Prim.Native.Nat.{ℕ, zero, suc}
 use Rattle.nodes.specs.Layout.{kind_of, link_of}
 use Rattle.nodes.specs.declared.Kind.TheVariants.{Logic}
-use borrow.Author.Rules.{rules}
 use Rattle.nodes.proofs.kind_of.Goals as goal
 
 other : (n c a b : ℕ) → (n ≡ 0 → ⊥) → (n ≡ 1 → ⊥) → (n ≡ 2 → ⊥) → (n ≡ 3 → ⊥) → (n ≡ 4 → ⊥) → (n ≡ 5 → ⊥) → (n ≡ 6 → ⊥) → (n ≡ 7 → ⊥) → (n ≡ 8 → ⊥) → (n ≡ 9 → ⊥) → (n ≡ 10 → ⊥) → Logic (link_of c) a b ≡ kind_of n c a b

@@ -1,8 +1,7 @@
-use mathlib.Core.Path.{◌≡◌, refl, sym, ◌∙◌}
+use mathlib.Core.Path.{◌≡◌, refl}
 use Prim.Native.Nat.{ℕ, zero, suc}
 use Rattle.nodes.specs.Layout.{link_of}
 use Rattle.nodes.specs.declared.Link.TheVariants.{Or}
-use borrow.Author.Rules.{rules}
 use Rattle.nodes.proofs.link_of.Goals as goal
 
 other : (n : ℕ) → (n ≡ 0 → ⊥) → Or ≡ link_of n

@@ -1,7 +1,4 @@
-use mathlib.Core.Path.{◌≡◌, refl, sym, ◌∙◌}
-use Prim.Native.Nat.{ℕ, zero, suc}
 use Rattle.nodes.specs.Layout.{what_at}
-use borrow.Author.Rules.{rules}
 use Rattle.nodes.proofs.node_at.Goals as goal
 
 pub returns : goal.returns

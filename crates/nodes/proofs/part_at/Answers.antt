@@ -1,7 +1,4 @@
-use mathlib.Core.Path.{◌≡◌, refl, sym, ◌∙◌}
-use Prim.Native.Nat.{ℕ, zero, suc}
 use Rattle.nodes.specs.Layout.{kind_at}
-use borrow.Author.Rules.{rules}
 use Rattle.nodes.proofs.part_at.Goals as goal
 
 pub returns : goal.returns

@@ -1,5 +1,4 @@
 use mathlib.Core.Path.{◌∙◌}
-use borrow.Author.Rules.{rules}
 use Rattle.nodes.proofs.shape_at.Goals as goal
 
 pub returns : goal.returns

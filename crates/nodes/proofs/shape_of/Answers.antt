@@ -1,4 +1,3 @@
-use borrow.Author.Rules.{rules}
 use Rattle.nodes.proofs.shape_of.Goals as goal
 
 pub returns-in-Delay : goal.returns-in-Delay

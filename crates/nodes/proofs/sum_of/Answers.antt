@@ -1,8 +1,7 @@
-use mathlib.Core.Path.{◌≡◌, refl, sym, ◌∙◌}
+use mathlib.Core.Path.{◌≡◌, refl}
 use Prim.Native.Nat.{ℕ, zero, suc}
 use Rattle.nodes.specs.Layout.{sum_of}
 use Rattle.nodes.specs.declared.Sum.TheVariants.{Remainder}
-use borrow.Author.Rules.{rules}
 use Rattle.nodes.proofs.sum_of.Goals as goal
 
 other : (n : ℕ) → (n ≡ 0 → ⊥) → (n ≡ 1 → ⊥) → (n ≡ 2 → ⊥) → (n ≡ 3 → ⊥) → Remainder ≡ sum_of n

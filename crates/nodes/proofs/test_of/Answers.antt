@@ -1,8 +1,7 @@
-use mathlib.Core.Path.{◌≡◌, refl, sym, ◌∙◌}
+use mathlib.Core.Path.{◌≡◌, refl}
 use Prim.Native.Nat.{ℕ, zero, suc}
 use Rattle.nodes.specs.Layout.{test_of}
 use Rattle.nodes.specs.declared.Test.TheVariants.{Less}
-use borrow.Author.Rules.{rules}
 use Rattle.nodes.proofs.test_of.Goals as goal
 
 other : (n : ℕ) → (n ≡ 0 → ⊥) → (n ≡ 1 → ⊥) → (n ≡ 2 → ⊥) → Less ≡ test_of n

@@ -1,7 +1,6 @@
 -- `nodes::what_of` meets its contract: by the kind's number.
 -- Assumes nothing.
-use borrow.Author.Rules.{rules}
-use mathlib.Core.Path.{◌≡◌, refl, sym, ◌∙◌}
+use mathlib.Core.Path.{◌≡◌, refl}
 use Prim.Native.Nat.{ℕ, zero, suc}
 use Rattle.nodes.specs.Layout.{what_of}
 use Rattle.nodes.specs.declared.What.TheVariants.{Skip}
