@@ -1,4 +1,6 @@
 // The running controller: one small record, changed in place.
+#![tactic(auto)]
+
 ghost use Rattle.std.specs.Prelude.{◌≡◌};
 ghost use Rattle.file_law.specs.Stepping.{step_answer, start_answer, after};
 ghost use Rattle.moves.specs.Meaning.{meaning};
@@ -6,7 +8,7 @@ ghost use Rattle.controller.specs.Record.{running, Took};
 
 use moves::Stands;
 
-#[derive(Drop)]
+#[derive(Clone, Copy)]
 pub struct Controller {
     pub state: u32,
     pub outputs: u32,

@@ -1,4 +1,6 @@
 // Fields of a KISS text: which of a field's texts stands here, or the place where the text leaves all of them.
+#![tactic(auto)]
+
 ghost use Rattle.std.specs.Prelude.{◌≡◌, [], ◌∷◌, ◌++◌, ℕ, ◌+◌, ◌*◌, ◌^◌, ◌≤◌, ◌<◌, max, length};
 ghost use Rattle.kiss_law.specs.Text.{decimal, bits, size_line, row_head};
 ghost use Rattle.kiss_fields.specs.Took.{Agrees, Took, Same, Digit, ReadSo};

@@ -1,4 +1,6 @@
 // Pieces of a KISS text, each into its own bytes of a lent buffer.
+#![tactic(auto)]
+
 ghost use Rattle.std.specs.Prelude.{[], ◌∷◌, ◌+◌, ◌≤◌, ◌<◌, length};
 ghost use Rattle.kiss_law.specs.Text.{ascii, decimal, bits, size_line, row_head, row_tail};
 ghost use Rattle.kiss_put.specs.Put.{Put};

@@ -1,4 +1,6 @@
 // A KISS text, read back into a table file.
+#![tactic(auto)]
+
 ghost use Rattle.std.specs.Prelude.{◌≡◌, ◌+◌, ◌^◌, ◌≤◌, ◌<◌, length};
 ghost use Rattle.kiss_law.specs.Kiss.{KissReads};
 ghost use Rattle.kiss_law.specs.Forms.{TextSizes};

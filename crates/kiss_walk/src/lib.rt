@@ -1,4 +1,6 @@
 // A text walked through, field by field: a KISS text that can be written, or the place where it stops being one.
+#![tactic(auto)]
+
 ghost use Rattle.std.specs.Prelude.{◌≡◌, false, ℕ, ◌+◌, ◌^◌, ◌<◌};
 ghost use Rattle.kiss_law.specs.Text.{ascii};
 ghost use Rattle.kiss_law.specs.Fields.{over, fixed};

@@ -12,7 +12,7 @@ use stream::{broken, sizes};
 const NOT_IN_TABLE: u32 = 14;
 
 // Where the controller stands, with its outputs, or a refusal with its number and place.
-#[derive(Drop)]
+#[derive(Clone, Copy)]
 pub enum Stands {
     At { state: u32, outputs: u32 },
     Refused { number: u32, place: u32 },
