@@ -1,7 +1,7 @@
 -- Each state has one struct.
 use mathlib.Core.Path.{◌≡◌, refl, sym, ap, ◌∙◌}
 use mathlib.Core.List.{List, [], ◌∷◌, ◌++◌, map}
-use Prim.Native.Nat.{ℕ, zero, suc, ◌+◌, ◌*◌}
+use Prim.Native.Nat.{ℕ, zero, suc, ◌*◌}
 use native.Mathlib.Numerals.{add-one}
 use native.Mathlib.Nat.{le_refl}
 use native.Mathlib.Omega.{arith}

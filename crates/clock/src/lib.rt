@@ -1,4 +1,6 @@
 // One clock of a program: a state and its inputs to the next state, with the input bits that it rests on.
+#![tactic(auto)]
+
 ghost use Rattle.std.specs.Prelude.{◌≡◌, ◌<◌, length};
 ghost use Rattle.nodes.specs.Ready.{Ready};
 ghost use Rattle.runs.specs.Buffer.{unpacked, entries_in};
@@ -6,7 +8,7 @@ ghost use Rattle.clock.specs.Step.{eight, settled_in, Clocks, Starts};
 
 use runs::Entry;
 
-#[derive(Drop)]
+#[derive(Clone, Copy)]
 pub struct State {
     pub entries: [Entry; 8],
     pub word: u32,

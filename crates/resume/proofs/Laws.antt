@@ -325,12 +325,12 @@ module _ (f : ℕ) (t : List ℕ) (i e : ℕ) (h : i < e) (fuel : 3 * (e - i) �
 
   pub plain_is : c ≡ Plain → (ws : List clock.Entry) (r : Reads) {b g : ℕ} {l k : List ℕ} → Comes (start s r) (start_seen s r) b l k g → Comes (resume s ws r) (resume_seen s ws r) b l k g
   plain_is q ws r C =
-      let p : IsPlain s = rw opened (plain_of _ _ _ _ _ _ _ (what_at t i) (sym ce ∙ q)) in
+      let p : IsPlain s = rw opened (plain_of _ (list_at (f - 1) t) (cases_at (f - 1) t) (branches_at (f - 1) t) _ i e (what_at t i) (sym ce ∙ q)) in
       comes_as (p.is ws r) (p.seen ws r) C
 
   module _ (d : ℕ) (q : c ≡ Waiting d) where
     waiting : IsDelay s (head_at t i) d
-    waiting = rw opened (wait_of _ _ _ _ _ _ _ (what_at t i) d (sym ce ∙ q))
+    waiting = rw opened (wait_of _ (list_at (f - 1) t) (cases_at (f - 1) t) (branches_at (f - 1) t) _ i e (what_at t i) d (sym ce ∙ q))
 
     pub wait_is : (ws : List clock.Entry) (r : Reads) {b g : ℕ} {l k : List ℕ} → Comes (delayed (head_at t i) (left_of d (get_or ws 0 nowhere))) 0 b l k g → Comes (resume s ws r) (resume_seen s ws r) b l k g
     unfolding resume resume_seen
@@ -345,16 +345,16 @@ module _ (f : ℕ) (t : List ℕ) (i e : ℕ) (h : i < e) (fuel : 3 * (e - i) �
     wait_short g = rw waiting.is at g
 
   pub either_is : (j : ℕ) → c ≡ Either j → IsEither s (head_at t i) (list_at (f - 1) t (i + 1) (within j i e)) (list_at (f - 1) t (within j i e) e)
-  either_is j q = rw opened (either_of _ _ _ _ _ _ _ (what_at t i) j (sym ce ∙ q))
+  either_is j q = rw opened (either_of _ (list_at (f - 1) t) (cases_at (f - 1) t) (branches_at (f - 1) t) _ i e (what_at t i) j (sym ce ∙ q))
 
   pub repeat_is : c ≡ Repeat → IsRepeat s (head_at t i) (list_at (f - 1) t (i + 1) e)
-  repeat_is q = rw opened (repeat_of _ _ _ _ _ _ _ (what_at t i) (sym ce ∙ q))
+  repeat_is q = rw opened (repeat_of _ (list_at (f - 1) t) (cases_at (f - 1) t) (branches_at (f - 1) t) _ i e (what_at t i) (sym ce ∙ q))
 
   pub tests_is : c ≡ Tests → s ≡ tree.switch (head_at t i) (cases_at (f - 1) t (i + 1) e)
-  tests_is q = opened ∙ tests_of_lem _ _ _ _ _ _ _ (what_at t i) (sym ce ∙ q)
+  tests_is q = opened ∙ tests_of_lem _ (list_at (f - 1) t) (cases_at (f - 1) t) (branches_at (f - 1) t) _ i e (what_at t i) (sym ce ∙ q)
 
   pub together_is : c ≡ Together → s ≡ tree.parallel (head_at t i) (branches_at (f - 1) t (i + 1) e)
-  together_is q = opened ∙ together_of _ _ _ _ _ _ _ (what_at t i) (sym ce ∙ q)
+  together_is q = opened ∙ together_of _ (list_at (f - 1) t) (cases_at (f - 1) t) (branches_at (f - 1) t) _ i e (what_at t i) (sym ce ∙ q)
 
 pub record Eithered (f : ℕ) (t : List ℕ) (i e k : ℕ) : Type 0 where
   pub fuel : 3 * (e - i) ≤ f + 1

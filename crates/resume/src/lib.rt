@@ -1,4 +1,6 @@
 // A statement, a list, cases and branches run over the buffer o from where their activities stand.
+#![tactic(auto)]
+
 ghost use Rattle.std.specs.Prelude.{◌≡◌, ◌+◌, ◌-◌, ◌*◌, ◌<◌, ◌≤◌, eqb, length};
 ghost use Rattle.meaning.specs.Clock.{resume, resume_all, resume_cases, resume_each, activities, activities_all, activities_cases, activities_sum};
 ghost use Rattle.nodes.specs.Layout.{what_at, shape_of, width_at, looks_at};

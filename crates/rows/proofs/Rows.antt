@@ -1,12 +1,11 @@
 -- A state in its row: what makes two one, what tells them apart, and what stays.
 -- Assumes nothing.
-use mathlib.Core.Path.{◌≡◌, refl, sym, ap, ap₂, ◌∙◌}
+use mathlib.Core.Path.{◌≡◌, refl, sym, ap, ◌∙◌}
 use mathlib.Core.List.{List}
 use Prim.Native.Nat.{ℕ, ◌+◌, ◌*◌, ◌<◌, ◌≤◌}
-use lib.ListN.{length, get_or, set, length-set}
+use lib.ListN.{length, get_or, set}
 use lib.Seq.{ext_get_or, get_or-set_same, get_or-set_other}
 use native.Mathlib.Omega.{arith}
-use Rattle.file_law.specs.Answer.{listed}
 use Rattle.file_law.specs.Bytes.{word2, word4, bytes_of}
 use Rattle.file_law.proofs.Every.{length-listed, get_or-listed}
 use Rattle.runs.specs.Run.{empty}

@@ -12,7 +12,7 @@ use Rattle.meaning.specs.Clock as clock
 use Rattle.runs.specs.declared.Entry.{Entry}
 use Rattle.runs.specs.Buffer.{unpacked, entries_in}
 use Rattle.runs.proofs.Buffer.{entries-long, entry_at}
-use Rattle.runs.specs.Run.{empty, entry_from, entry_by, window, least, least_from, least_of}
+use Rattle.runs.specs.Run.{empty, entry_from, entry_by, window, least_from, least_of}
 
 pub window-cons : (es : List Entry) (b w : ℕ) → b < length es → (w ≡ 0 → ⊥) → window es b w ≡ entry_from (get_or es b empty) ∷ window es (b + 1) (w - 1)
 window-cons es b zero h k = absurd (k refl)

@@ -2,7 +2,7 @@
 -- Assumes nothing.
 use Rattle.std.specs.Prelude.{◌≡◌, ℕ, zero, suc, ◌+◌, ◌≤◌, Bool, true, false, cond, List, [], ◌∷◌, map, leb, ltb, get_or, set, take, drop}
 use Rattle.std.specs.Int.Bits.{bit_or}
-use Rattle.meaning.specs.Tries.{Tries, without}
+use Rattle.meaning.specs.Tries.{without}
 use Rattle.meaning.specs.Clock.{Outcome, finishes, jumps, waits, done, stands, Jump, Branch, out, off, nowhere, at}
 use Rattle.meaning.specs.Clock as clock
 use Rattle.runs.specs.declared.Entry.{Entry}

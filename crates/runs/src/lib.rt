@@ -3,13 +3,15 @@
 //
 // How a statement ends is a small number: 0 finished, 1 `exit`, 2 `break`, 3 it waits and has finished then, 4 it waits and
 // stands somewhere then.
+#![tactic(auto)]
+
 ghost use Rattle.std.specs.Prelude.{◌≡◌, List, ℕ, ◌+◌, ◌*◌, ◌<◌, ◌≤◌, length, set, get_or};
 ghost use Rattle.meaning.specs.Clock.{waits, done, left_of, nowhere};
 ghost use Rattle.runs.specs.Run.{How, Run, entry_from, window, least_from, least_of, run, then_run, looped_run, caught_run, closed_run, latest, is_jump};
 ghost use Rattle.runs.specs.Buffer.{packed, unpacked, entries_in, mask_in, number, gathers, Holds, Comes, Looked, Open, Wiped};
 
 // Where an activity stands: the number of a statement or case test plus 1, or 0, and the clocks left of a delay.
-#[derive(Drop)]
+#[derive(Clone, Copy)]
 pub struct Entry {
     pub place: u16,
     pub left: u8,

@@ -1,4 +1,6 @@
 // A statement, a list, cases and branches run from their start over the buffer o.
+#![tactic(auto)]
+
 ghost use Rattle.std.specs.Prelude.{◌≡◌, ◌+◌, ◌-◌, ◌*◌, ◌<◌, ◌≤◌};
 ghost use Rattle.meaning.specs.Clock.{start, start_all, start_cases, start_each, activities, activities_all, activities_cases, activities_sum};
 ghost use Rattle.nodes.specs.Layout.{what_at, width_at, looks_at};

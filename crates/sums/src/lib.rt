@@ -1,5 +1,7 @@
 // Right sides in 32 bits: `+` and `-` wrap round on purpose, since the low bits come out the same. Any other part has its
 // exact value, and comparisons know no other.
+#![tactic(auto)]
+
 ghost use Rattle.std.specs.Prelude.{◌≡◌, ℕ, ◌+◌, ◌%◌, ◌^◌, ◌≤◌};
 ghost use Rattle.meaning.specs.Numbers.{low_bits, whole_of, value};
 ghost use Rattle.nodes.specs.Decode.{expr_at};

@@ -1,4 +1,6 @@
 // Statements that wait, and tests. What raise, lower, invert and := try is said here alone.
+#![tactic(auto)]
+
 ghost use Rattle.std.specs.Prelude.{◌≡◌, ℕ, ◌+◌, ◌%◌, ◌^◌, ◌<◌, ◌≤◌, length};
 ghost use Rattle.meaning.specs.Tries.{bit_at, change_tries, assign_tries, try_bits, changed, try_bit};
 ghost use Rattle.meaning.specs.Numbers.{holds, bit_of};
