@@ -10,10 +10,9 @@ use lib.Dec.{ltb}
 use borrow.Author.Tests.{lt-ltb}
 use Rattle.meaning.specs.Tree.{Name}
 use Rattle.meaning.specs.Unexpanded.{Term}
-use Rattle.meaning.specs.Expansion.{Bound, actual_of, Form, name_form, bit_form, is_name, is_bit}
+use Rattle.meaning.specs.Expansion.{Bound, actual_of, name_form, bit_form, is_name, is_bit}
 use Rattle.language.specs.Words.{Word}
 use Rattle.words.specs.Runs.{part}
-use Rattle.words.specs.Kinds.{kind_count}
 use Rattle.hand.specs.declared.Here.{Here}
 use Rattle.hand.specs.Along.{Stands, Near, Begins}
 use Rattle.frames_law.specs.Frames.{told_at}

@@ -1,4 +1,6 @@
 // P7: whether a body's own statements use its formals as the actuals allow.
+#![tactic(auto)]
+
 ghost use Rattle.std.specs.Prelude.{◌≤◌, length};
 ghost use Rattle.hand.specs.Along.{Near};
 ghost use Rattle.parts.specs.Beside.{beside};

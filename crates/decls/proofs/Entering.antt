@@ -12,7 +12,7 @@ use Rattle.meaning.specs.Tree.{Name}
 use Rattle.meaning.specs.Declared.{Declaration, name_of, same_bytes}
 use Rattle.meaning.specs.Procedures.{has_name}
 use Rattle.meaning.specs.Unexpanded.{Procedure}
-use Rattle.language.specs.Words.{name, number, Word, same, signs, reserved}
+use Rattle.language.specs.Words.{name, Word, same, signs, reserved}
 use Rattle.language.specs.Scan.{found, next_word, behind}
 use Rattle.language.specs.Grammar.{FormalNames, MoreFormals, binding, csml}
 use Rattle.language.specs.Trees.{name_at}

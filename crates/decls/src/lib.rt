@@ -1,4 +1,6 @@
 // Declarations read from a text: an entry a declared name and a row a procedure in lent bytes, and what is noted of them.
+#![tactic(auto)]
+
 ghost use Rattle.std.specs.Prelude.{◌≡◌, ◌≤◌, length};
 ghost use Rattle.decls.specs.Came.{Ready, OutputsCame, EnterCame, Came};
 
@@ -9,35 +11,35 @@ mod rows;
 mod step;
 
 // Where a reader of declarations is: 0 behind them, else at a declared name of 1 inputs, 2 outputs, 3 internals, 4 integers, 5 at a procedure's.
-#[derive(Drop)]
+#[derive(Clone, Copy)]
 pub struct At {
     pub list: u8,
     pub word: Here,
 }
 
 // An initial value, and the word behind it.
-#[derive(Drop)]
+#[derive(Clone, Copy)]
 pub struct Started {
     pub word: Here,
     pub value: u16,
 }
 
 // A declared name, and the word behind all that belongs to it.
-#[derive(Drop)]
+#[derive(Clone, Copy)]
 pub struct Named {
     pub item: Item,
     pub word: Here,
 }
 
 // A declared name, and where the next one is.
-#[derive(Drop)]
+#[derive(Clone, Copy)]
 pub struct Turn {
     pub item: Item,
     pub at: At,
 }
 
 // The marks of all declarations, how many are procedures, and the word behind them.
-#[derive(Drop)]
+#[derive(Clone, Copy)]
 pub struct Read {
     pub marks: Marks,
     pub procedures: u16,

@@ -7,9 +7,9 @@ use Prim.Native.Nat.{ℕ, zero, suc, ◌-◌, ◌≤◌, ◌<◌}
 use native.Mathlib.Omega.{arith}
 use Rattle.meaning.specs.Tree.{Name}
 use Rattle.meaning.specs.Unexpanded.{Term, literal, truth, variable, bit, not, int, arithmetic, comparison, logic, parens, instead, no_name}
-use Rattle.meaning.specs.Expansion.{Bound, actual_of, Form, one_name, one_bit, neither, form_of, moved, read_name, read_bit, bit_of_form, name_of_form, changed_name, target_of_form, changed_whole, name_form, bit_form, is_name, is_bit, replaced}
+use Rattle.meaning.specs.Expansion.{Bound, actual_of, Form, one_name, one_bit, neither, form_of, read_name, read_bit, bit_of_form, name_of_form, changed_name, target_of_form, changed_whole, name_form, bit_form, is_name, is_bit, replaced}
 use Rattle.words.specs.Runs.{part}
-use Rattle.frames_law.specs.Frames.{Frames, told_at, TermAt, Framed, Stood, formal_in}
+use Rattle.frames_law.specs.Frames.{told_at, TermAt, Framed, Stood, formal_in}
 use Rattle.frames_law.proofs.Frames.{formal-stands, no_formal_in}
 use Rattle.frames.specs.declared.Under.{Under}
 use Rattle.frames.specs.declared.Meant.{Meant}

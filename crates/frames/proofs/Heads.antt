@@ -7,7 +7,6 @@ use Prim.Native.Nat.{ℕ, zero, suc, ◌+◌, ◌≤◌, ◌<◌}
 use native.Mathlib.Omega.{arith}
 use lib.Dec.{eqb}
 use lib.ListN.{length, take, drop, length-take, length-drop}
-use borrow.Author.Tests.{eqb-true}
 use Rattle.meaning.specs.Unexpanded as unexpanded
 use Rattle.ll1.specs.Values.{make}
 use Rattle.language.specs.Words.{name, the, Word, bytes, same, word_at, kind_of, too_large}

@@ -1,19 +1,19 @@
 -- A call's frame is written: what is known under it.
 -- Assumes nothing.
-use mathlib.Core.Path.{◌≡◌, refl, sym, ◌∙◌, ap}
+use mathlib.Core.Path.{◌≡◌, refl, ◌∙◌, ap}
 use mathlib.Core.List.{List, [], ◌∷◌, map}
 use Prim.Native.Nat.{ℕ, zero, suc, ◌+◌, ◌-◌, ◌*◌, ◌≤◌, ◌<◌}
 use native.Mathlib.Numerals.{add-one}
 use native.Mathlib.Omega.{arith}
-use lib.ListN.{length, get_or}
+use lib.ListN.{length}
 use Rattle.meaning.specs.Tree.{Name}
 use Rattle.meaning.specs.Unexpanded.{Term}
 use Rattle.meaning.specs.Unexpanded as unexpanded
 use Rattle.meaning.specs.Expansion.{Bound, bind, replaced}
-use Rattle.frames_law.specs.Frames.{told_at, NamedAt, TermAt, Framed, Each}
+use Rattle.frames_law.specs.Frames.{told_at, NamedAt, Framed, Each}
 use Rattle.frames_law.proofs.Frames.{framed-push}
 use Rattle.frames.specs.declared.Under.{Under}
-use Rattle.frames.specs.Layout.{half_at, place_at, parts_at, levels_at, procedure_at, each_from, formals_at, frames_of, frame_bytes, chain_bytes}
+use Rattle.frames.specs.Layout.{half_at, parts_at, levels_at, procedure_at, each_from, formals_at, frames_of, frame_bytes}
 use Rattle.frames.specs.Open.{ProcedureAt, Rows, parts_of, levels_of, Measured, Counted, Sized, Nested, Open, Handed, called_under}
 use Rattle.frames.specs.Put.{Over}
 use Rattle.frames.proofs.Heads.{head_of}

@@ -1,23 +1,22 @@
 -- What an actual's text is by itself, by the words that are met.
 -- Assumes nothing.
 use mathlib.Core.Bool.{true, false}
-use mathlib.Core.Path.{◌≡◌, refl, sym, ◌∙◌, ap, ap₂}
+use mathlib.Core.Path.{◌≡◌, sym, ◌∙◌, ap, ap₂}
 use mathlib.Core.Logic.{◌⊎◌, inl, inr}
 use mathlib.Core.List.{List, ◌∷◌}
 use Prim.Native.Nat.{ℕ, suc, ◌+◌, ◌<◌}
 use native.Mathlib.Omega.{arith}
 use lib.ListN.{length, drop}
 use Rattle.meaning.specs.Unexpanded.{Term, variable, bit}
-use Rattle.meaning.specs.Expansion.{Form, one_name, one_bit, neither, form_of, moved}
+use Rattle.meaning.specs.Expansion.{one_name, one_bit, neither, form_of, moved}
 use Rattle.ll1.proofs.Sets.{clash}
 use Rattle.language.specs.Words.{name, number, the, Word, signs, reserved}
-use Rattle.language.specs.Scan.{Next, found, over, span, past_blanks, next_word}
+use Rattle.language.specs.Scan.{found, over, span, past_blanks, next_word}
 use Rattle.language.specs.Words as words
 use Rattle.language.specs.Grammar.{Tier, Index, most_levels}
-use Rattle.language.specs.Trees.{Name, name_at, number_at}
+use Rattle.language.specs.Trees.{name_at, number_at}
 use Rattle.language.proofs.ScanLaws.{next_over}
-use Rattle.words.specs.Kinds.{spellings, numbered, kind_count}
-use Rattle.words.specs.Meaning.{worth}
+use Rattle.words.specs.Kinds.{spellings, numbered}
 use Rattle.descent_law.specs.Told.{Told}
 use Rattle.descent_law.proofs.Expressions.{tier-told}
 use Rattle.hand.specs.declared.Here.{Here}

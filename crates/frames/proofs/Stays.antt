@@ -1,22 +1,17 @@
 -- What lies below a frame that is written, and the rows of the procedures, stay as they are.
 -- Assumes nothing.
-use mathlib.Core.Bool.{Bool, cond}
-use mathlib.Core.Path.{◌≡◌, refl, sym, ◌∙◌, ap, ap₂}
-use mathlib.Core.List.{List, [], ◌∷◌}
-use mathlib.Core.Option.{Option, some}
-use Prim.Native.Nat.{ℕ, zero, suc, ◌+◌, ◌-◌, ◌*◌, ◌/◌, ◌%◌, ◌≤◌, ◌<◌}
+use mathlib.Core.Path.{◌≡◌, refl, ◌∙◌, ap, ap₂}
+use mathlib.Core.List.{List, ◌∷◌}
+use Prim.Native.Nat.{ℕ, zero, suc, ◌+◌, ◌-◌, ◌*◌, ◌≤◌, ◌<◌}
 use native.Mathlib.Decide.{ℕ_discrete}
 use native.Mathlib.Omega.{arith}
 use lib.ListN.{length, get_or}
-use Rattle.meaning.specs.Numbers.{Variable}
 use Rattle.meaning.specs.Unexpanded.{Term}
 use Rattle.meaning.specs.Unexpanded as unexpanded
 use Rattle.meaning.specs.Expansion.{Bound}
-use Rattle.language.specs.Words.{same}
-use Rattle.words.specs.Runs.{part}
 use Rattle.names.specs.Look as look
 use Rattle.names.specs.Look.{end_at, kind_at, entry_at, look_from, look_in}
-use Rattle.frames_law.specs.Frames.{Frames, Alike}
+use Rattle.frames_law.specs.Frames.{Alike}
 use Rattle.frames.specs.Layout.{half_at, row_at, procedure_at, wide_at, place_at, parts_at, levels_at, each_from, formals_at, formal_count, frames_of, frame_bytes, chain_bytes}
 use Rattle.frames.specs.Open.{Rows, Sized, Nested}
 

@@ -1,6 +1,6 @@
 -- What is known while a text is read under open calls: the procedures that can be called, and the frame.
 -- Assumes nothing.
-use Rattle.std.specs.Prelude.{◌≡◌, List, [], ◌∷◌, ℕ, zero, suc, ◌+◌, ◌-◌, ◌*◌, ◌≤◌, ◌<◌, min, length, get_or}
+use Rattle.std.specs.Prelude.{◌≡◌, List, [], ◌∷◌, ℕ, zero, suc, ◌+◌, ◌*◌, ◌≤◌, ◌<◌, min, length, get_or}
 use Rattle.meaning.specs.Unexpanded.{Term}
 use Rattle.meaning.specs.Unexpanded as unexpanded
 use Rattle.meaning.specs.Expansion.{Bound, wide_all, wides}

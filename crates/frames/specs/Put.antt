@@ -1,7 +1,7 @@
 -- What is written behind the tree: the frame of a call, and nothing where it was.
 -- Assumes nothing.
 use Rattle.std.specs.Prelude.{Bool, true, false, cond, ◌≡◌, List, ℕ, zero, suc, ◌+◌, ◌*◌, ◌/◌, ◌%◌, ◌≤◌, ◌<◌, eqb, length, get_or, set, take}
-use Rattle.parts.specs.Beside.{tree_bytes, Beside, beside}
+use Rattle.parts.specs.Beside.{tree_bytes, beside}
 
 -- the tree stays, and behind it lie these bytes
 pub record Puts (t u z : List ℕ) : Type 0 where

@@ -1,4 +1,6 @@
 // The calls that are open while a body is read: their frames, and the procedures that can be called, in the bytes behind the tree.
+#![tactic(auto)]
+
 ghost use Rattle.std.specs.Prelude.{◌≡◌};
 ghost use Rattle.frames_law.specs.Frames.{told_at};
 

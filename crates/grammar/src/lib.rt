@@ -1,4 +1,6 @@
 // Is a text a program? Refusals 3, 4 and 5, with their places.
+#![tactic(auto)]
+
 ghost use Rattle.std.specs.Prelude.{◌≡◌, ◌≤◌, length};
 ghost use Rattle.ll1.specs.Rows.{row};
 ghost use Rattle.grammar_law.specs.Codes.{codes};
@@ -18,14 +20,14 @@ const MOST_BYTES: usize = 8192;
 const MOST_LEVELS: u8 = 32;
 
 // A program; or a refusal with its number and place.
-#[derive(Drop)]
+#[derive(Clone, Copy)]
 pub enum Checked {
     Grammatical,
     Refused { number: u32, place: u32 },
 }
 
 // The word to be read next: its kind's number (0 where the words end), how many words stand before it, its place, and the place behind it.
-#[derive(Drop)]
+#[derive(Clone, Copy)]
 struct Here {
     kind: u8,
     number: usize,
@@ -34,7 +36,7 @@ struct Here {
 }
 
 // Where a row was left, and whether it was read to its end.
-#[derive(Drop)]
+#[derive(Clone, Copy)]
 struct Got {
     word: Here,
     ok: bool,
@@ -42,7 +44,7 @@ struct Got {
 
 // What a symbol of a row calls for: the row has ended; the word may not stand there; it is read; a level opens or closes, with so many left;
 // the row of a part, the last of its own; or the row of a part, and then the rest of its own.
-#[derive(Drop)]
+#[derive(Clone, Copy)]
 enum Turn {
     End,
     Stop,

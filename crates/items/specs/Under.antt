@@ -12,8 +12,6 @@ use Rattle.frames_law.specs.Frames.{no_place, told_at}
 use Rattle.frames.specs.declared.Under.{Under}
 use Rattle.frames.specs.Open.{Open}
 use Rattle.names.specs.Look.{look_in}
-use Rattle.parts.specs.declared.Notes.{Notes}
-use Rattle.items.specs.declared.Marks.{Marks}
 use Rattle.items.specs.Walk.{Walked, walked, Test, test_at, walk_all, walk_cases, walk_each}
 
 -- the marks with the notes of 6 and 9 at other places

@@ -1,7 +1,7 @@
 -- What is noted of statements and what is written of them, as a function of the tree.
 -- Assumes nothing.
 use Rattle.std.specs.Prelude.{Bool, true, cond, not as opposite, List, ℕ, ◌+◌, ◌*◌, ◌/◌, ◌%◌, min, max, eqb, ltb, leb, length, set}
-use Rattle.std.proofs.Math.Option.{Option, none}
+use Rattle.std.proofs.Math.Option.{Option}
 use Rattle.meaning.specs.Tree.{Expr, Change, raise, lower, invert, Target, whole, part, Head, Stmt, skip, delay, change, assign, choice, while, loop, exit, break, switch, parallel, Stmts, end, ◌⨾◌, Cases, default, case, Branches, ◌∥◌}
 use Rattle.meaning.specs.Tree as tree
 use Rattle.meaning.specs.Numbers.{Variable}

@@ -1,4 +1,6 @@
 // Statements as they are read: the structs, and the small steps of what is noted of them.
+#![tactic(auto)]
+
 ghost use Rattle.std.specs.Prelude.{◌≡◌};
 ghost use Rattle.items.specs.Under.{inside_at};
 
@@ -10,7 +12,7 @@ pub mod noted;
 pub mod targets;
 
 // The notes, the least place of fault 8 (65,535: none), the statements and the nodes so far, and the activities.
-#[derive(Drop)]
+#[derive(Clone, Copy)]
 pub struct Marks {
     pub notes: Notes,
     pub eight: u16,
@@ -20,14 +22,14 @@ pub struct Marks {
 }
 
 // What was read: the word behind it, and the marks.
-#[derive(Drop)]
+#[derive(Clone, Copy)]
 pub struct Read {
     pub word: Here,
     pub marks: Marks,
 }
 
 // A test: the word behind the one that ends it, the number of its part, and the input bits that it reads.
-#[derive(Drop)]
+#[derive(Clone, Copy)]
 pub struct Tried {
     pub word: Here,
     pub marks: Marks,

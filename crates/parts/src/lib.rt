@@ -1,4 +1,6 @@
 // The parts of expressions: what is noted of them while they are read, and how they are written into lent bytes.
+#![tactic(auto)]
+
 pub mod found;
 pub mod leaves;
 pub mod marks;
@@ -8,7 +10,7 @@ pub mod seen;
 use hand::Here;
 
 // The least place of each fault so far (65,535: none), and how many parts there are.
-#[derive(Drop)]
+#[derive(Clone, Copy)]
 pub struct Notes {
     pub six: u16,
     pub seven: u16,
@@ -18,7 +20,7 @@ pub struct Notes {
 }
 
 // What was read: the word behind it, the notes, the number of its part, whether it is a truth, its worst size, and the input bits that it reads.
-#[derive(Drop)]
+#[derive(Clone, Copy)]
 pub struct Got {
     pub word: Here,
     pub notes: Notes,

@@ -3,7 +3,6 @@
 use Rattle.std.specs.Prelude.{◌≡◌, List, ℕ, ◌+◌, ◌≤◌, min, max}
 use Rattle.meaning.specs.Unexpanded.{Term, variable}
 use Rattle.meaning.specs.Expansion.{Bound, replaced}
-use Rattle.language.specs.Trees.{Name}
 use Rattle.words.specs.Runs.{part}
 use Rattle.hand.specs.declared.Here.{Here}
 use Rattle.hand.specs.Along.{Near}

@@ -1,4 +1,6 @@
 // The sizes of an expression under open calls: its parts and its levels, with each formal counted as its frame says. No actual is read again.
+#![tactic(auto)]
+
 ghost use Rattle.std.specs.Prelude.{◌≤◌};
 ghost use Rattle.std.proofs.Math.ListN.{get_elem?};
 ghost use Rattle.language.specs.Grammar.{binding};

@@ -1,4 +1,6 @@
 // The two tables of the grammar: its rows, and where the row begins that a word calls for.
+#![tactic(auto)]
+
 ghost use Rattle.std.specs.Prelude.{◌≡◌, replicate};
 ghost use Rattle.grammar_law.specs.Tables.{cell_count, rows};
 ghost use Rattle.grammar_law.specs.Starts.{starts};

@@ -12,7 +12,7 @@ pub mod kinds;
 mod scan;
 
 // A word: its kind by number (`kinds`), its place, the place behind it, and a number's value.
-#[derive(Drop)]
+#[derive(Clone, Copy)]
 pub struct Word {
     pub kind: u8,
     pub start: usize,
@@ -21,7 +21,7 @@ pub struct Word {
 }
 
 // What comes next: a word; refusal 4 and its place; or nothing but blanks.
-#[derive(Drop)]
+#[derive(Clone, Copy)]
 pub enum Next {
     Found(Word),
     Stops(usize),
@@ -29,7 +29,7 @@ pub enum Next {
 }
 
 // The place of refusal 4, if there is one.
-#[derive(Drop)]
+#[derive(Clone, Copy)]
 pub enum Stop {
     At(usize),
     None,
