@@ -4,17 +4,17 @@ use mathlib.Core.Bool.{Bool, true, false, cond}
 use mathlib.Core.Path.{◌≡◌, refl, sym, ◌∙◌, ap, ap₂, subst}
 use mathlib.Core.List.{List, [], ◌∷◌, map}
 use mathlib.Core.Option.{Option, none, some}
-use Prim.Native.Nat.{ℕ, zero, suc, ◌+◌, ◌-◌, ◌*◌, ◌≤◌, ◌<◌}
+use Prim.Native.Nat.{ℕ, suc, ◌+◌, ◌-◌, ◌*◌, ◌≤◌, ◌<◌}
 use native.Mathlib.Omega.{arith}
 use lib.Dec.{ltb, leb}
-use lib.ListN.{length, get_or, take}
+use lib.ListN.{length, take}
 use borrow.Author.Tests.{lt-ltb, le-leb, ltb-true, leb-true}
 use Rattle.meaning.specs.Tree.{Name}
 use Rattle.meaning.specs.Declared.{same_bytes}
 use Rattle.meaning.specs.Unexpanded.{Term, Commands, call}
 use Rattle.meaning.specs.Unexpanded as unexpanded
 use Rattle.meaning.specs.Expansion.{Bound, bind, replaced, moved, allowed_by, same_count, alone, expand_all, called}
-use Rattle.language.specs.Words.{Word, the}
+use Rattle.language.specs.Words.{Word}
 use Rattle.language.specs.Grammar.{Actuals, Statements, most_levels}
 use Rattle.language.specs.Trees.{name_at}
 use Rattle.words.specs.Runs.{part}
@@ -25,9 +25,9 @@ use Rattle.hand.specs.Along.{Along, Stands, Near, Begins}
 use Rattle.hand.proofs.Chosen.{called_by_lem}
 use Rattle.names.specs.Look.{look_in}
 use Rattle.parts.specs.Beside.{tree_bytes, Beside, beside}
-use Rattle.frames_law.specs.Frames.{no_place, told_at, NamedAt, TermAt, Framed, Each}
+use Rattle.frames_law.specs.Frames.{no_place, told_at, NamedAt}
 use Rattle.frames.specs.declared.Under.{Under}
-use Rattle.frames.specs.Layout.{half_at, place_at, parts_at, levels_at, procedure_at, each_from, formals_at, body_from, frame_bytes, chain_bytes}
+use Rattle.frames.specs.Layout.{procedure_at, formals_at, body_from, frame_bytes}
 use Rattle.frames.specs.Open.{Open, Handed, called_under}
 use Rattle.frames.specs.Put.{Puts, frame_in, wiped, zero_from, Over}
 use Rattle.frames.specs.Row.{row_in}
@@ -35,7 +35,7 @@ use Rattle.frames.specs.Meant.{placed}
 use Rattle.frames.proofs.Formal.{none-some}
 use Rattle.frames.proofs.Listed.{placed-some}
 use Rattle.frames.proofs.Heads.{Head, head_of, word_moves}
-use Rattle.frames.proofs.Putting.{puts_size, puts_names, puts_on, zeros_are, zeros_clean, wiped-back, frame_caller, frame_procedure, frame_other, over_start, over_frame}
+use Rattle.frames.proofs.Putting.{puts_size, puts_names, puts_on, zeros_clean, wiped-back, frame_caller, frame_procedure, frame_other, over_start, over_frame}
 use Rattle.frames.proofs.Stays.{Same, places_stay, all-parts_stay, all-levels_stay, nested-few, chain_has, look_stays}
 use Rattle.frames.proofs.Rowed.{row_less, Calls, calls-none, calls-row}
 use Rattle.frames.proofs.Pushing.{as_many_lem, open_push}
@@ -43,9 +43,9 @@ use Rattle.allow.specs.Allowed.{Allows}
 use Rattle.calls.specs.declared.actuals.Handing.{Handing}
 use Rattle.calls.specs.declared.Entered.{Entered}
 use Rattle.calls.specs.Room.{frame_end, BodyAt}
-use Rattle.calls.specs.Hands.{Known, stand_for, Beyond, Hands}
+use Rattle.calls.specs.Hands.{Known, stand_for, Hands}
 use Rattle.calls.specs.Settles.{frame_under, framed, Leaves, Settles}
-use Rattle.calls.specs.Enters.{Body, Expands, Outcome, Wrote, Enters}
+use Rattle.calls.specs.Enters.{Body, Outcome, Wrote, Enters}
 
 -- ---- where the frame ends
 

@@ -1,19 +1,18 @@
 -- The actuals of a call, one after the other.
 -- Assumes nothing.
 use mathlib.Core.Bool.{Bool, true, false, cond}
-use mathlib.Core.Path.{◌≡◌, refl, sym, ◌∙◌, ap, ap₂, subst}
+use mathlib.Core.Path.{◌≡◌, refl, sym, ◌∙◌, ap, subst}
 use mathlib.Core.List.{List, [], ◌∷◌, ◌++◌, map}
-use Prim.Native.Nat.{ℕ, zero, suc, ◌+◌, ◌-◌, ◌*◌, ◌≤◌, ◌<◌}
+use Prim.Native.Nat.{ℕ, zero, suc, ◌+◌, ◌*◌, ◌≤◌, ◌<◌}
 use native.Mathlib.Numerals.{add-one}
 use native.Mathlib.Omega.{arith}
 use lib.Dec.{eqb, ltb}
-use lib.ListN.{length, get_or, drop, length-drop}
-use borrow.Author.Tests.{lt-ltb, le-ltb, eq-eqb, ne_eqb, ltb-true}
+use lib.ListN.{length, get_or, length-drop}
+use borrow.Author.Tests.{lt-ltb, eq-eqb, ne_eqb, ltb-true}
 use Rattle.meaning.specs.Unexpanded.{Term}
 use Rattle.meaning.specs.Expansion.{Bound, replaced}
 use Rattle.ll1.proofs.Tests.{has, begin_row, pick}
 use Rattle.language.specs.Words.{Word, signs, reserved}
-use Rattle.language.specs.Scan.{found, next_word}
 use Rattle.language.specs.Grammar.{Actuals, MoreActuals, Expression, Tier, binding, csml, most_levels}
 use Rattle.language.proofs.Claims.{claims, first, empty, follow}
 use Rattle.words.specs.Kinds.{spellings, numbered}
@@ -23,22 +22,21 @@ use Rattle.descent_law.proofs.Expressions.{tier-told}
 use Rattle.descent_law.proofs.Statements.{actuals-told, more-actuals-told}
 use Rattle.descent_law.proofs.Deeper.{deeper}
 use Rattle.hand.specs.declared.Here.{Here}
-use Rattle.hand.specs.Along.{Along, Stands, Near, Begins}
+use Rattle.hand.specs.Along.{Along, Stands, Begins}
 use Rattle.hand.proofs.Chosen.{up_to, agrees, Decides, called-row, called_by_lem}
-use Rattle.tiers.specs.Comes.{Tells, Comes}
-use Rattle.parts.specs.Beside.{tree_bytes, Beside, beside}
-use Rattle.frames_law.specs.Frames.{told_at, TermAt, Framed, Each}
+use Rattle.tiers.specs.Comes.{Tells}
+use Rattle.parts.specs.Beside.{beside}
+use Rattle.frames_law.specs.Frames.{told_at, TermAt, Each}
 use Rattle.frames_law.proofs.Frames.{framed_stays}
 use Rattle.frames.specs.declared.Under.{Under}
 use Rattle.frames.specs.Layout.{place_at, parts_at, levels_at, each_from, frames_of}
-use Rattle.frames.specs.Open.{parts_of, levels_of, Sized, Nested, Handed}
-use Rattle.frames.specs.Put.{Puts, actual_in, Over}
+use Rattle.frames.specs.Open.{parts_of, levels_of, Handed}
+use Rattle.frames.specs.Put.{Puts, actual_in}
 use Rattle.frames.proofs.Putting.{puts_size, puts_names, actual-other, actual-place, actual-parts, actual-levels, over_actual}
 use Rattle.frames.proofs.Stays.{Same, places_stay, all-parts_stay, all-levels_stay, nested-alike, sized_stays}
 use Rattle.frames.proofs.Heads.{word_moves}
 use Rattle.sizes.specs.declared.Extent.{Extent}
 use Rattle.sizes.specs.Counts.{Counts, CountsUnder, Sizes}
-use Rattle.calls.specs.declared.actuals.Handing.{Handing}
 use Rattle.calls.specs.Hands.{hand_in, Known, stand_for, Beyond, Hands}
 
 -- ---- one actual more

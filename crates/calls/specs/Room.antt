@@ -1,6 +1,6 @@
 -- Where the frame of a call ends, if it can be written.
 -- Assumes nothing.
-use Rattle.std.specs.Prelude.{cond, ◌≡◌, List, ℕ, ◌+◌, ◌-◌, ◌*◌, ◌≤◌, ltb, leb, length}
+use Rattle.std.specs.Prelude.{cond, List, ℕ, ◌+◌, ◌-◌, ◌*◌, ◌≤◌, ltb, leb, length}
 use Rattle.std.proofs.Math.Option.{Option, none, some}
 use Rattle.hand.specs.declared.Here.{Here}
 use Rattle.hand.specs.Along.{Near, Begins}

@@ -1,4 +1,6 @@
 // A call entered: its procedure found, its frame written with every actual, and P7 asked.
+#![tactic(auto)]
+
 ghost use Rattle.std.specs.Prelude.{◌≡◌, false, ◌<◌};
 ghost use Rattle.hand.specs.Along.{Near};
 ghost use Rattle.calls.specs.Settles.{Settles};

@@ -2,8 +2,8 @@
 -- Assumes nothing.
 use mathlib.Core.Bool.{Bool, true, false, cond}
 use mathlib.Core.Path.{◌≡◌, refl, sym, ◌∙◌, ap, subst}
-use mathlib.Core.List.{List, [], ◌∷◌, map}
-use Prim.Native.Nat.{ℕ, zero, suc, ◌+◌, ◌-◌, ◌≤◌, ◌<◌, min}
+use mathlib.Core.List.{List, ◌∷◌, map}
+use Prim.Native.Nat.{ℕ, zero, suc, ◌-◌, ◌≤◌}
 use native.Mathlib.Omega.{arith}
 use lib.ListN.{length}
 use Rattle.meaning.specs.Tree.{Name}
@@ -23,24 +23,23 @@ use Rattle.hand.specs.Along.{Stands, Near, Begins}
 use Rattle.tiers.proofs.Laws.{first_is}
 use Rattle.tiers.proofs.Rows.{call_only, one_there}
 use Rattle.parts.specs.Beside.{Beside, beside}
-use Rattle.parts.proofs.Beside.{same_size}
-use Rattle.frames_law.specs.Frames.{no_place, told_at}
+use Rattle.frames_law.specs.Frames.{told_at}
 use Rattle.frames_law.proofs.Frames.{told-call}
 use Rattle.frames.specs.declared.Under.{Under}
-use Rattle.frames.specs.Open.{Open, Rows}
+use Rattle.frames.specs.Open.{Rows}
 use Rattle.frames.specs.Put.{Puts, Over, wiped}
 use Rattle.frames.proofs.Putting.{wiped-back}
 use Rattle.tally.specs.declared.Tally.{Tally}
 use Rattle.tally.specs.Tally.{full_tally, none_left, begun_tally}
-use Rattle.tally.specs.Holds.{State, over_all, Holds}
+use Rattle.tally.specs.Holds.{over_all}
 use Rattle.tally.proofs.Steps.{alike, begun-holds}
 use Rattle.tally.proofs.Ends.{none_left_lem}
 use Rattle.measure.specs.declared.Counted.{Counted}
-use Rattle.measure.specs.Counted.{Known, one_of, all_of, Measures, On, Tells, RowCame, All}
+use Rattle.measure.specs.Counted.{Known, one_of, all_of, Measures, Tells, RowCame, All}
 use Rattle.calls.specs.declared.Entered.{Entered}
 use Rattle.calls.specs.declared.actuals.Handing.{Handing}
 use Rattle.calls.specs.Hands.{Hands}
-use Rattle.calls.specs.Enters.{Body, Expands, Outcome, Wrote, Enters}
+use Rattle.calls.specs.Enters.{Expands, Outcome, Wrote, Enters}
 use Rattle.measure.proofs.States.{call-state}
 use Rattle.measure.proofs.Laws.{counted}
 

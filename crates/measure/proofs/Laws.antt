@@ -1,22 +1,22 @@
 -- The laws of the readers that count: one for each way on.
 -- Assumes nothing.
-use mathlib.Core.Bool.{Bool, true, false, cond}
+use mathlib.Core.Bool.{true, false}
 use mathlib.Core.Path.{◌≡◌, refl, sym, ◌∙◌, ap, subst}
 use mathlib.Core.List.{List, ◌∷◌}
 use mathlib.Core.Option.{Option}
-use Prim.Native.Nat.{ℕ, zero, suc, ◌+◌, ◌-◌, ◌≤◌, ◌<◌, min}
+use Prim.Native.Nat.{ℕ, zero, suc, ◌+◌, ◌-◌, ◌<◌, min}
 use native.Mathlib.Omega.{arith}
 use lib.Dec.{ltb}
 use lib.ListN.{length}
 use Rattle.ll1.proofs.Sets.{clash}
 use Rattle.meaning.specs.Tree.{Name, Change, raise, lower, invert, Target}
 use Rattle.meaning.specs.Sizes.{most_delay}
-use Rattle.meaning.specs.Unexpanded.{Term, Command, skip, delay, change, assign, choice, while, loop, exit, break, switch, parallel, Commands, end, ◌⨾◌, Tests, case, Strands, ◌∥◌}
+use Rattle.meaning.specs.Unexpanded.{Term, Command, skip, delay, change, assign, choice, while, loop, exit, break, switch, parallel, Commands, end, Tests, case, Strands, ◌∥◌}
 use Rattle.meaning.specs.Expansion.{expand}
 use Rattle.language.specs.Words.{Word}
-use Rattle.language.specs.Grammar.{Expression, Index, AfterName, Else}
+use Rattle.language.specs.Grammar.{Index, AfterName, Else}
 use Rattle.language.specs.Trees.{name_at, number_at}
-use Rattle.descent_law.specs.Told.{Told, IndexRow}
+use Rattle.descent_law.specs.Told.{IndexRow}
 use Rattle.descent_law.specs.Rows.{ChangeRow, ElseRow, AfterNameRow, StatementRow}
 use Rattle.descent_law.proofs.Expressions.{index_told}
 use Rattle.descent_law.proofs.Statements.{target_told, else_told, after-name-told}
@@ -26,7 +26,6 @@ use Rattle.tiers.specs.Comes.{Comes}
 use Rattle.tiers.specs.Choose.{statement_row, is_plain}
 use Rattle.tiers.proofs.Laws.{first_is}
 use Rattle.tiers.proofs.Rows.{row_told, row_six, row-none, else_only, index_only, call_only, one_there, none_there}
-use Rattle.own_law.specs.Own.{own_term}
 use Rattle.own_law.proofs.Early.{each_stay, closed_stays, opened_stays, begun_stays}
 use Rattle.tally.proofs.Steps.{over_on}
 use Rattle.tally.proofs.Ends.{end-state}
@@ -37,11 +36,11 @@ use Rattle.sizes.specs.declared.Extent.{Extent}
 use Rattle.sizes.specs.Counts.{CountsUnder}
 use Rattle.tally.specs.declared.Tally.{Tally}
 use Rattle.tally.specs.Tally.{begun_tally, marked_tally, deep_tally, term_tally, acts_tally, together_tally}
-use Rattle.tally.specs.Holds.{State, doing, with_acts, over_all, over_tests, over_branch, over_each, Holds}
+use Rattle.tally.specs.Holds.{with_acts, over_all, over_tests, over_branch, over_each}
 use Rattle.tally.proofs.Steps.{alike, begun-holds, opened-holds, closed-holds, marked_holds, term_holds, branches_start, together-holds}
 use Rattle.measure.specs.declared.Counted.{Counted}
 use Rattle.measure.specs.Counted.{Known, term_of, one_of, all_of, tests_of, each_of, Measures, Leads, On, Tells, TestCame, BareCame, PastChange, RowCame, One, All, CaseCame, CasesCame, BranchCame, BranchesCame}
-use Rattle.measure.proofs.States.{beginning, inside, outside, term, skip-state, exit-state, break-state, delay-state, change-state, assign-state, loop-state, while-state, choice-state, switch-state, parallel-state, case-state, branch_state}
+use Rattle.measure.proofs.States.{beginning, inside, term, skip-state, exit-state, break-state, delay-state, change-state, assign-state, loop-state, while-state, choice-state, switch-state, parallel-state, case-state, branch_state}
 
 abbrev pub counted : Here → Tally → Counted
 counted w m = record { word = w; tally = m }

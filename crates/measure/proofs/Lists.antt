@@ -1,12 +1,11 @@
 -- The laws of the readers of lists, cases and branches that count: one for each way on.
 -- Assumes nothing.
-use mathlib.Core.Bool.{Bool, true, false}
+use mathlib.Core.Bool.{false}
 use mathlib.Core.Path.{◌≡◌, refl, sym, ◌∙◌, ap, subst}
-use mathlib.Core.List.{List, ◌∷◌}
+use mathlib.Core.List.{List}
 use Prim.Native.Nat.{ℕ, ◌+◌, ◌≤◌, min, max}
 use native.Mathlib.Omega.{arith}
-use Rattle.meaning.specs.Unexpanded.{Term, Command, Commands, end, ◌⨾◌, Tests, default, case, Strands, ◌∥◌}
-use Rattle.meaning.specs.Unexpanded as unexpanded
+use Rattle.meaning.specs.Unexpanded.{Command, Commands, end, ◌⨾◌, Tests, Strands}
 use Rattle.meaning.specs.Clock.{activities_all}
 use Rattle.meaning.specs.Base.{base_all}
 use Rattle.meaning.specs.Expansion.{expand}
@@ -21,7 +20,6 @@ use Rattle.tiers.specs.Choose.{statement_row}
 use Rattle.tiers.proofs.Laws.{first_is}
 use Rattle.tiers.proofs.Rows.{after_only, cases_only, branches_only, one_there, none_there, next_one, next-none}
 use Rattle.own_law.proofs.Early.{all_stay}
-use Rattle.parts.specs.Beside.{beside}
 use Rattle.frames.specs.declared.Under.{Under}
 use Rattle.tally.specs.declared.Tally.{Tally}
 use Rattle.tally.specs.Tally.{acts_tally, summed_tally}
@@ -29,7 +27,7 @@ use Rattle.tally.specs.Holds.{State, with_acts, over_all, over_tests, over_branc
 use Rattle.tally.proofs.Steps.{over_on, alike, branch_starts, branch_ends}
 use Rattle.tally.proofs.Ends.{acts-some, end-state}
 use Rattle.measure.specs.declared.Counted.{Counted}
-use Rattle.measure.specs.Counted.{Known, term_of, one_of, all_of, tests_of, each_of, Measures, Led, Leads, On, Tells, TestCame, One, All, CaseCame, CasesCame, BranchCame, BranchesCame}
+use Rattle.measure.specs.Counted.{Known, term_of, one_of, all_of, tests_of, each_of, Measures, Leads, On, Tells, TestCame, One, All, CaseCame, CasesCame, BranchCame, BranchesCame}
 use Rattle.measure.proofs.States.{term, default-state, case-state, none-state, branch_state, more-state}
 use Rattle.measure.proofs.Laws.{counted, and_on, on_word, on_here}
 

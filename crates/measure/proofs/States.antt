@@ -1,20 +1,19 @@
 -- What each statement does to the counts, step by step as its reader takes it.
 -- Assumes nothing.
-use mathlib.Core.Bool.{Bool, true, false}
 use mathlib.Core.Path.{◌≡◌, refl, sym, ap, ◌∙◌}
 use mathlib.Core.List.{List}
-use Prim.Native.Nat.{ℕ, suc, ◌+◌, ◌≤◌, max}
+use Prim.Native.Nat.{ℕ, ◌+◌, ◌≤◌, max}
 use native.Mathlib.Omega.{arith}
 use lib.Dec.{ltb}
 use Rattle.meaning.specs.Tree.{Name, Change, Target}
-use Rattle.meaning.specs.Clock.{activities, activities_all, activities_cases, activities_sum}
+use Rattle.meaning.specs.Clock.{activities, activities_sum}
 use Rattle.meaning.specs.Sizes.{most_delay}
 use Rattle.meaning.specs.States.{most_activities}
 use Rattle.meaning.specs.Unexpanded.{Term, Command, skip, delay, change, assign, choice, while, loop, exit, break, switch, parallel, call, Commands, end, ◌⨾◌, Tests, default, case, Strands, ◌∥◌}
 use Rattle.meaning.specs.Unexpanded as unexpanded
-use Rattle.meaning.specs.Base.{base, base_all, base_tests, base_each}
+use Rattle.meaning.specs.Base.{base, base_each}
 use Rattle.meaning.specs.Expansion.{alone, expand}
-use Rattle.own_law.specs.Own.{Own, begun, closed, opened, if_large, own_term, own_command, own_all, own_tests, own_each}
+use Rattle.own_law.specs.Own.{Own, begun, closed, opened, if_large, own_term, own_command}
 use Rattle.frames.specs.declared.Under.{Under}
 use Rattle.tally.specs.Holds.{State, doing, with_acts, over_all, over_tests, over_branch, over_each}
 use Rattle.tally.proofs.Ends.{joined-state}

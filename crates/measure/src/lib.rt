@@ -1,4 +1,6 @@
 // Statements counted under open calls: whether an outermost call passes a size, and its activities. Nothing is noted or written but frames, and those are cleared.
+#![tactic(auto)]
+
 ghost use Rattle.std.specs.Prelude.{◌≡◌, ℕ, ◌≤◌, ◌<◌};
 ghost use Rattle.hand.specs.Along.{Near, Begins};
 ghost use Rattle.parts.specs.Beside.{beside};
