@@ -28,14 +28,15 @@ fn stepped(
     match parsed {
         Parsed::Number(input) => {
             let stands = stepper::step(file, state, input);
-            show::stands(rt, stands, outputs)?;
-            match stands {
-                Stands::At { state, outputs: _ } => Ok(state),
+            let next = match stands {
+                Stands::At { state, outputs: _ } => state,
                 Stands::Refused {
                     number: _,
                     place: _,
-                } => Ok(state),
-            }
+                } => state,
+            };
+            show::stands(rt, stands, outputs)?;
+            Ok(next)
         }
         Parsed::Not => {
             show::text(rt, b": not a number below 2^32\n")?;
