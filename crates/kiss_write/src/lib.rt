@@ -1,4 +1,6 @@
 // The KISS text of a table file, written into a lent buffer.
+#![tactic(auto)]
+
 ghost use Rattle.std.specs.Prelude.{◌≡◌, ◌+◌, ◌≤◌, ◌<◌, length};
 ghost use Rattle.file_law.specs.Answer.{gives};
 ghost use Rattle.file_law.specs.Reading.{stream_in, Within, open_answer};
