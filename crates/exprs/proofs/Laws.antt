@@ -33,7 +33,7 @@ use Rattle.parts.specs.declared.Got.{Got}
 use Rattle.parts.specs.Sum.{Sum, sum_of, sum, counted, leaf_sum, around_sum, join_sum, name_sum, bit_sum}
 use Rattle.parts.specs.Beside.{beside}
 use Rattle.parts.proofs.Beside.{same_size, put-beside}
-use Rattle.exprs.specs.Came.{sum_under, Tells, Came, PlainCame}
+use Rattle.exprs.specs.Came.{sum_under, Came, PlainCame}
 use Rattle.exprs.proofs.Chosen.{join_op}
 
 -- ---- sums

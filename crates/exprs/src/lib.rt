@@ -1,4 +1,6 @@
 // Expressions read from a text, by the tiers of the operators.
+#![tactic(auto)]
+
 ghost use Rattle.std.proofs.Math.ListN.{get_elem?};
 ghost use Rattle.language.specs.Grammar.{binding};
 ghost use Rattle.parts.specs.Beside.{beside};

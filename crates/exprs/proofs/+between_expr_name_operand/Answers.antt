@@ -1,0 +1,162 @@
+use mathlib.Core.Path.{refl, sym, ◌∙◌, ap}
+use native.Mathlib.Omega.{arith}
+use Rattle.frames_law.specs.Frames.{told_at}
+use Rattle.hand.specs.declared.Here.{Here}
+use Rattle.parts.specs.Beside.{beside}
+use Rattle.frames.specs.declared.Under.{Under}
+use Rattle.frames.proofs.Following.{meant_deep}
+use Rattle.exprs.proofs.Laws.{came-long, plain_long, before-skip, before-deep, before_on, between_start, between_ends, between_on, operand_plain, operand-deep, operand_open, operand-int, plain_name}
+use Rattle.tiers.proofs.Laws.{before-low, between-low, strength_known}
+use Rattle.exprs.proofs.Formals.{own_name, formal-read, formal-past}
+use Rattle.exprs.proofs.+between_expr_name_operand.Goals as goal
+
+pub between-expr-left-requires : goal.between-expr-left-requires
+between-expr-left-requires t c = (omega (arith, c.decreases, (between-low c.args.tier c.requires.1)), record { near = c.requires.0.near; listed = c.requires.0.listed; low = omega (arith, (between-low c.args.tier c.requires.1)); few = c.requires.0.few })
+
+pub between-loop-u-init : goal.between-loop-u-init
+between-loop-u-init t c = (between_start (rw (← c.expr-left.ensures.kept) at c.expr-left.ensures), refl)
+
+pub between-shape_of-t-then-strength_of-tier : goal.between-shape_of-t-then-strength_of-tier
+between-shape_of-t-then-strength_of-tier t c = came-long (between_ends (between-low c.args.tier c.requires.1) c.requires.1 (rw c.strength_of.ensures at c.if-strength_of-tier.true) c.expr-left.ensures (rw c.expr-left.ensures.kept at c.loop-u.invariant.0))
+
+pub between-returns-then-strength_of-tier : goal.between-returns-then-strength_of-tier
+between-returns-then-strength_of-tier t c = between_ends (between-low c.args.tier c.requires.1) c.requires.1 (rw c.strength_of.ensures at c.if-strength_of-tier.true) c.expr-left.ensures (rw c.expr-left.ensures.kept at c.loop-u.invariant.0)
+
+pub between-word_from-v-requires : goal.between-word_from-v-requires
+between-word_from-v-requires t c = (c.requires.0.near.short, c.loop-u.invariant.0.near.inside)
+
+pub between-expr-right-requires : goal.between-expr-right-requires
+between-expr-right-requires t c = (omega (arith, c.decreases, (between-low c.args.tier c.requires.1)), record { near = c.word_from-v.ensures.near; listed = rw (c.loop-u.invariant.0.kept ∙ c.expr-left.ensures.kept) c.requires.0.listed; low = omega (arith, (between-low c.args.tier c.requires.1)); few = c.requires.0.few })
+
+pub between-loop-u-smaller : goal.between-loop-u-smaller
+between-loop-u-smaller t c = omega (arith, c.loop-u.invariant.0.near.more (strength_known c.loop-u.left.word.kind c.args.tier (between-low c.args.tier c.requires.1) (sym c.strength_of.ensures ∙ c.if-strength_of-tier.false)), c.word_from-v.ensures.later, c.expr-right.ensures.later, c.expr-right.ensures.near.on, c.expr-right.ensures.near.inside, ap (λ (w : Here). w.place) c.joined-left.ensures.0)
+
+pub between-loop-u-preserved : goal.between-loop-u-preserved
+between-loop-u-preserved t c = (between_on c.told-at.result c.loop-u.invariant.0 (between-low c.args.tier c.requires.1) (sym c.strength_of.ensures ∙ c.if-strength_of-tier.false) c.word_from-v.ensures (c.told-at.ensures ∙ ap (told_at c.args.u.at) c.loop-u.invariant.1) (rw c.loop-u.invariant.0.kept at c.expr-right.ensures) c.counted-m.ensures c.joined-left.ensures.0 c.joined-left.ensures.1, refl)
+
+pub expr-expr-requires : goal.expr-expr-requires
+expr-expr-requires t c = (omega (arith, c.decreases, (before-low c.args.tier _ (rw c.in-Before.is at c.strength_at.ensures))), record { near = c.requires.near; listed = c.requires.listed; low = omega (arith, (before-low c.args.tier _ (rw c.in-Before.is at c.strength_at.ensures))); few = c.requires.few })
+
+pub expr-shape_of-t-then-first-op : goal.expr-shape_of-t-then-first-op
+expr-shape_of-t-then-first-op t c = came-long c.expr.ensures
+
+pub expr-returns-then-first-op : goal.expr-returns-then-first-op
+expr-returns-then-first-op t c = before-skip (before-low c.args.tier _ (rw c.in-Before.is at c.strength_at.ensures)) (rw c.in-Before.is at c.strength_at.ensures) c.if-first-op.true c.expr.ensures
+
+pub expr-returns-then-levels-eq0 : goal.expr-returns-then-levels-eq0
+expr-returns-then-levels-eq0 t c = before-deep (before-low c.args.tier _ (rw c.in-Before.is at c.strength_at.ensures)) (rw c.in-Before.is at c.strength_at.ensures) c.if-first-op.false c.if-levels-eq0.true c.requires.near c.nothing.ensures
+
+pub expr-word_from-inner-requires : goal.expr-word_from-inner-requires
+expr-word_from-inner-requires t c = (c.requires.near.short, c.requires.near.inside)
+
+pub expr-expr-g-requires : goal.expr-expr-g-requires
+expr-expr-g-requires t c = (omega (arith, c.decreases, c.if-levels-eq0.false), record { near = c.word_from-inner.ensures.near; listed = c.requires.listed; low = c.requires.low; few = omega (arith, c.requires.few) })
+
+pub expr-shape_of-t-in-Before : goal.expr-shape_of-t-in-Before
+expr-shape_of-t-in-Before t c = came-long (before_on c.told-p.result (before-low c.args.tier _ (rw c.in-Before.is at c.strength_at.ensures)) (rw c.in-Before.is at c.strength_at.ensures) c.if-first-op.false c.requires.near c.word_from-inner.ensures c.told-p.ensures c.expr-g.ensures c.counted-n.ensures c.negated.ensures.0 c.negated.ensures.1)
+
+pub expr-returns-in-Before : goal.expr-returns-in-Before
+expr-returns-in-Before t c = before_on c.told-p.result (before-low c.args.tier _ (rw c.in-Before.is at c.strength_at.ensures)) (rw c.in-Before.is at c.strength_at.ensures) c.if-first-op.false c.requires.near c.word_from-inner.ensures c.told-p.ensures c.expr-g.ensures c.counted-n.ensures c.negated.ensures.0 c.negated.ensures.1
+
+pub expr-between-requires : goal.expr-between-requires
+expr-between-requires t c = (omega (arith, c.decreases), (c.requires, rw c.in-Between.is at c.strength_at.ensures))
+
+pub expr-shape_of-t-in-Between : goal.expr-shape_of-t-in-Between
+expr-shape_of-t-in-Between t c = came-long c.between.ensures
+
+pub expr-returns-in-Between : goal.expr-returns-in-Between
+expr-returns-in-Between t c = c.between.ensures
+
+pub expr-operand-requires : goal.expr-operand-requires
+expr-operand-requires t c = (omega (arith, c.decreases), (c.requires, rw c.in-Operand.is at c.strength_at.ensures))
+
+pub expr-shape_of-t-in-Operand : goal.expr-shape_of-t-in-Operand
+expr-shape_of-t-in-Operand t c = came-long c.operand.ensures
+
+pub expr-returns-in-Operand : goal.expr-returns-in-Operand
+expr-returns-in-Operand t c = c.operand.ensures
+
+pub name-word_from-after-requires : goal.name-word_from-after-requires
+name-word_from-after-requires t c = (c.requires.near.short, c.requires.near.inside)
+
+pub name-bit-requires : goal.name-bit-requires
+name-bit-requires t c = (c.requires, c.word_from-after.ensures, c.if-after-eq16.true)
+
+pub name-shape_of-t-then-after-eq16 : goal.name-shape_of-t-then-after-eq16
+name-shape_of-t-then-after-eq16 t c = plain_long c.bit.ensures
+
+pub name-returns-then-after-eq16 : goal.name-returns-then-after-eq16
+name-returns-then-after-eq16 t c = c.bit.ensures
+
+pub name-find-v-requires : goal.name-find-v-requires
+unfolding beside
+name-find-v-requires t c = c.requires.listed
+
+pub name-returns-then-q : goal.name-returns-then-q
+name-returns-then-q t c = plain_name c.requires.near c.word_from-after.ensures (own_name _ _ c.args.u _ _ c.formal-q.ensures c.if-q.true) c.if-after-eq16.false c.find-v.ensures c.named.ensures.0 (rw c.told.ensures at c.named.ensures.1)
+
+pub name-returns-then-q-s : goal.name-returns-then-q-s
+name-returns-then-q-s t c = formal-past _ _ c.args.u c.requires.near c.word_from-after.ensures c.if-after-eq16.false c.formal-q.ensures c.if-q.false (omega arith) c.nothing.ensures c.if-q-s.true
+
+pub name-word_from-requires : goal.name-word_from-requires
+name-word_from-requires t c = (c.requires.near.short, c.if-q-s.false)
+
+pub name-expr-g-requires : goal.name-expr-g-requires
+name-expr-g-requires t c = (omega (arith, c.decreases, ap (λ (v : Under). v.depth) c.caller-around.ensures, meant_deep _ _ c.args.u _ _ _ c.formal-q.ensures c.if-q.false (omega arith)), record { near = c.word_from.ensures.near; listed = c.requires.listed; low = omega arith; few = omega arith })
+
+pub name-shape_of-t : goal.name-shape_of-t
+name-shape_of-t t c = came-long c.expr-g.ensures
+
+pub name-returns : goal.name-returns
+name-returns t c = formal-read _ _ c.args.u c.requires.near c.word_from-after.ensures c.if-after-eq16.false c.formal-q.ensures c.if-q.false (omega arith) c.behind.ensures.0 c.word_from.ensures c.caller-around.ensures c.expr-g.ensures refl c.behind.ensures.1
+
+pub operand-name-requires : goal.operand-name-requires
+operand-name-requires t c = (omega (arith, c.decreases, c.requires.0.low), record { near = c.requires.0.near; listed = c.requires.0.listed })
+
+pub operand-shape_of-t-then-row-eq0 : goal.operand-shape_of-t-then-row-eq0
+operand-shape_of-t-then-row-eq0 t c = plain_long c.name.ensures
+
+pub operand-returns-then-row-eq0 : goal.operand-returns-then-row-eq0
+operand-returns-then-row-eq0 t c = operand_plain c.requires.1 (sym c.if-row-eq0.true ∙ c.operand_row-row.ensures) c.name.ensures
+
+pub operand-constant-requires : goal.operand-constant-requires
+operand-constant-requires t c = (c.requires.0.near, omega (arith, c.if-row-eq0.false), c.if-row-lt4.true)
+
+pub operand-shape_of-t-then-row-lt4 : goal.operand-shape_of-t-then-row-lt4
+operand-shape_of-t-then-row-lt4 t c = plain_long c.constant.ensures
+
+pub operand-returns-then-row-lt4 : goal.operand-returns-then-row-lt4
+operand-returns-then-row-lt4 t c = operand_plain c.requires.1 c.operand_row-row.ensures c.constant.ensures
+
+pub operand-returns-then-levels-eq0 : goal.operand-returns-then-levels-eq0
+operand-returns-then-levels-eq0 t c = operand-deep c.requires.1 c.operand_row-row.ensures (λ z. omega (arith, c.if-row-lt4.false)) c.if-levels-eq0.true c.requires.0.near c.nothing.ensures
+
+pub operand-word_from-second-requires : goal.operand-word_from-second-requires
+operand-word_from-second-requires t c = (c.requires.0.near.short, c.requires.0.near.inside)
+
+pub operand-expr-g-requires : goal.operand-expr-g-requires
+operand-expr-g-requires t c = (omega (arith, c.decreases, c.if-levels-eq0.false, c.requires.0.low), record { near = c.word_from-second.ensures.near; listed = c.requires.0.listed; low = omega arith; few = omega (arith, c.requires.0.few) })
+
+pub operand-word_from-requires : goal.operand-word_from-requires
+operand-word_from-requires t c = (c.requires.0.near.short, c.expr-g.ensures.near.inside)
+
+pub operand-shape_of-t-then-row-eq5 : goal.operand-shape_of-t-then-row-eq5
+operand-shape_of-t-then-row-eq5 t c = came-long c.expr-g.ensures
+
+pub operand-returns-then-row-eq5 : goal.operand-returns-then-row-eq5
+operand-returns-then-row-eq5 t c = operand_open c.requires.1 c.operand_row-row.ensures c.if-row-eq5.true c.requires.0.near c.word_from-second.ensures c.expr-g.ensures c.word_from.ensures c.behind.ensures.0 c.behind.ensures.1
+
+pub operand-word_from-third-requires : goal.operand-word_from-third-requires
+operand-word_from-third-requires t c = (c.requires.0.near.short, c.word_from-second.ensures.near.inside)
+
+pub operand-expr-g-requires-2 : goal.operand-expr-g-requires-2
+operand-expr-g-requires-2 t c = (omega (arith, c.decreases, c.if-levels-eq0.false, c.requires.0.low), record { near = c.word_from-third.ensures.near; listed = c.requires.0.listed; low = omega arith; few = omega (arith, c.requires.0.few) })
+
+pub operand-word_from-requires-2 : goal.operand-word_from-requires-2
+operand-word_from-requires-2 t c = (c.requires.0.near.short, c.expr-g-2.ensures.near.inside)
+
+pub operand-shape_of-t : goal.operand-shape_of-t
+operand-shape_of-t t c = came-long (operand-int c.told-p.result c.requires.1 c.operand_row-row.ensures (λ z. omega (arith, c.if-row-lt4.false)) c.if-row-eq5.false c.requires.0.near c.word_from-second.ensures c.word_from-third.ensures c.told-p.ensures c.expr-g-2.ensures c.counted-n.ensures c.word_from-2.ensures c.int_of.ensures.0 c.int_of.ensures.1)
+
+pub operand-returns : goal.operand-returns
+operand-returns t c = operand-int c.told-p.result c.requires.1 c.operand_row-row.ensures (λ z. omega (arith, c.if-row-lt4.false)) c.if-row-eq5.false c.requires.0.near c.word_from-second.ensures c.word_from-third.ensures c.told-p.ensures c.expr-g-2.ensures c.counted-n.ensures c.word_from-2.ensures c.int_of.ensures.0 c.int_of.ensures.1
