@@ -1,4 +1,6 @@
 // What the reader of statements needs to know of a call in the program's own text before it reads it.
+#![tactic(auto)]
+
 ghost use Rattle.std.specs.Prelude.{◌≡◌, ◌≤◌};
 ghost use Rattle.hand.specs.Along.{Near};
 ghost use Rattle.gauge.specs.Measures.{Measures};
