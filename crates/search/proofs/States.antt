@@ -1,6 +1,6 @@
 -- The first n states: what they are by number, that they stay, and one more.
 -- Assumes nothing.
-use mathlib.Core.Path.{◌≡◌, refl, sym, ap, ◌∙◌}
+use mathlib.Core.Path.{◌≡◌, sym, ap, ◌∙◌}
 use mathlib.Core.Logic.{◌⊎◌, inl, inr}
 use mathlib.Core.List.{List, [], ◌∷◌, ◌++◌, Memᴰ}
 use Prim.Native.Nat.{ℕ, ◌+◌, ◌<◌}
@@ -8,7 +8,6 @@ use lib.ListN.{length, get_or, length-append, get_or-append}
 use lib.Seq.{ext_get_or, get_or_at}
 use native.Mathlib.Omega.{arith}
 use native.Mathlib.Nat.{eq-or-lt_of_le}
-use Rattle.file_law.specs.Answer.{listed}
 use Rattle.file_law.proofs.Every.{length-listed, get_or-listed}
 use Rattle.reach_law.proofs.Lists.{mem_get_or}
 use Rattle.meaning.specs.States.{State}

@@ -1,5 +1,7 @@
 // The reachable states of a stored program, numbered, with their next numbers. An input that agrees with an earlier one on all
 // that its clock looked at needs no clock of its own.
+#![tactic(auto)]
+
 ghost use Rattle.std.specs.Prelude.{◌≡◌, ◌<◌, length};
 ghost use Rattle.nodes.specs.Ready.{Ready};
 ghost use Rattle.rows.specs.Area.{next_at, next_in};
@@ -13,7 +15,7 @@ use index::Look;
 use rows::{bytes, next, row};
 
 // What is searched: a tree's statements and case tests, the clock's fuel, the word at the start, the inputs, and the room.
-#[derive(Drop)]
+#[derive(Clone, Copy)]
 pub struct Task {
     pub count: u16,
     pub left: u16,
