@@ -175,7 +175,7 @@ module _ {s z : List ℕ} {n : ℕ} where
         go : (ws : List Word) → Stands s r.word ws → (m : ℕ) → walk (wide_in s z n) calm (acts r.acts []) ws ≡ some m → Dec (r.word.kind ≡ 57) → r.acts ≡ m
         go ws t m e (yes i) = last-count (wide_in s z n) s r.word r.acts [] i ws t m e
         go [] t m e (no i) = none-some e
-        go (w ∷ ws) (same, along) m e (no i) = absurd (omega (arith, same.known, past_end r.word.kind g.ends (λ q. omega arith) (λ q. omega arith) i))
+        go (w ∷ ws) t m e (no i) = absurd (omega (arith, t.0.known, past_end r.word.kind g.ends (λ q. omega arith) (λ q. omega arith) i))
 
     pub bodied_forward : {v : Here} → Begins s r.word.next v → r.word.kind ≤ 55 → Forward s r.word r.word v
     bodied_forward b e =

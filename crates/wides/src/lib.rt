@@ -1,4 +1,6 @@
 // The activities that each procedure can have (P14), from the words of its body, filled into its row.
+#![tactic(auto)]
+
 ghost use Rattle.std.specs.Prelude.{◌≤◌, length};
 ghost use Rattle.hand.specs.Along.{Near};
 ghost use Rattle.parts.specs.Beside.{beside};
