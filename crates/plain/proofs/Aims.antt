@@ -1,14 +1,14 @@
 -- What a statement is aimed at is what its name stands for, told at the name's place.
 -- Assumes nothing.
-use mathlib.Core.Bool.{Bool, true, false, cond}
+use mathlib.Core.Bool.{Bool, true, false}
 use mathlib.Core.Path.{◌≡◌, refl, sym, ap, subst, ◌∙◌}
 use mathlib.Core.List.{List, []}
 use mathlib.Core.Option.{Option, none, some}
 use Prim.Native.Nat.{ℕ}
 use lib.Dec.{ltb}
-use Rattle.meaning.specs.Tree.{Name, Target, whole, part}
+use Rattle.meaning.specs.Tree.{Name, whole, part}
 use Rattle.meaning.specs.Unexpanded.{Term}
-use Rattle.meaning.specs.Expansion.{Bound, actual_of, Form, one_name, one_bit, neither, form_of, moved, name_of_form, changed_name, target_of_form, changed_whole}
+use Rattle.meaning.specs.Expansion.{Bound, actual_of, Form, one_name, one_bit, neither, name_of_form, changed_name, target_of_form, changed_whole}
 use Rattle.words.specs.Runs as words
 use Rattle.frames_law.specs.Frames.{no_place, told_at}
 use Rattle.frames.specs.declared.Under.{Under}
@@ -17,7 +17,6 @@ use Rattle.frames.specs.declared.Meant.TheVariants as meant
 use Rattle.frames.specs.Meant.{span_name, form_for, form_in, MeantBy}
 use Rattle.items.specs.Under.{Scope}
 use Rattle.order_law.proofs.Senses.{own-bound}
-use Rattle.plain.specs.declared.aim.Aim.{Aim}
 use Rattle.plain.specs.Aim.{name_to, aimed, name_aim, whole_aim, part_aim}
 
 -- the names of a form are told at p

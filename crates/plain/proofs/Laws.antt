@@ -4,7 +4,7 @@ use mathlib.Core.Bool.{Bool, true, false, cond}
 use mathlib.Core.Path.{◌≡◌, refl, sym, ◌∙◌, ap, subst}
 use mathlib.Core.List.{List, ◌∷◌}
 use mathlib.Core.Option.{Option}
-use Prim.Native.Nat.{ℕ, zero, suc, ◌+◌, ◌≤◌, ◌<◌}
+use Prim.Native.Nat.{ℕ, zero, suc, ◌≤◌, ◌<◌}
 use native.Mathlib.Omega.{arith}
 use native.Mathlib.Decide.{dec_lt}
 use lib.Dec.{eqb, ltb}
@@ -12,11 +12,11 @@ use borrow.Author.Tests.{ne_eqb, le-ltb}
 use Rattle.ll1.proofs.Sets.{clash}
 use Rattle.meaning.specs.Numbers.{Variable}
 use Rattle.meaning.specs.Kinds.{changeable, has_bit}
-use Rattle.meaning.specs.Tree.{Name, Expr, Change, raise, lower, invert, Target, whole, part}
+use Rattle.meaning.specs.Tree.{Name, Expr, Change, raise, lower, invert, Target, part}
 use Rattle.meaning.specs.Unexpanded.{Term, Command, skip, delay, change, assign, exit, break}
 use Rattle.meaning.specs.Levels.{levels_in}
 use Rattle.meaning.specs.Base.{head_at, base_term}
-use Rattle.meaning.specs.Expansion.{Bound, actual_of, replaced, changed_name, changed_whole, target_replaced}
+use Rattle.meaning.specs.Expansion.{actual_of, replaced, changed_name, changed_whole, target_replaced}
 use Rattle.language.specs.Words.{Word}
 use Rattle.language.specs.Grammar.{Expression, Index, AfterName}
 use Rattle.language.specs.Trees.{name_at, number_at, whole_or_part}

@@ -1,4 +1,6 @@
 // Statements with no statement inside, and tests.
+#![tactic(auto)]
+
 ghost use Rattle.std.specs.Prelude.{◌≡◌, Bool, true, length, ◌+◌, ◌*◌, ◌≤◌, ◌<◌};
 ghost use Rattle.hand.specs.Along.{Begins};
 ghost use Rattle.parts.specs.Beside.{beside};
