@@ -6,13 +6,13 @@ use mathlib.Core.List.{List, [], ◌∷◌, ◌++◌, map}
 use mathlib.Core.Option.{Option}
 use Prim.Native.Nat.{ℕ, ◌+◌, ◌-◌, ◌*◌, ◌≤◌, ◌<◌}
 use native.Mathlib.Omega.{arith}
-use lib.Dec.{eqb, ltb}
+use lib.Dec.{ltb}
 use lib.ListN.{length, take, length-drop}
 use borrow.Author.Tests.{eq-eqb, le-ltb}
 use Rattle.meaning.specs.Tree.{Name}
 use Rattle.meaning.specs.Numbers.{Variable}
 use Rattle.meaning.specs.Unexpanded.{Term, Command, call, Commands, Procedure}
-use Rattle.meaning.specs.Expansion.{Bound, moved, replaced, expand, expand_all, called, outermost, alone}
+use Rattle.meaning.specs.Expansion.{Bound, moved, replaced, expand, called, outermost, alone}
 use Rattle.meaning.specs.Base.{head_at, idle}
 use Rattle.meaning.proofs.Unchanged.{same_term}
 use Rattle.meaning.specs.Levels.{most_levels}
@@ -34,11 +34,11 @@ use Rattle.frames.specs.declared.Under.{Under}
 use Rattle.frames.specs.Layout.{frames_of}
 use Rattle.frames.specs.Open.{Open}
 use Rattle.frames.specs.Open as frame
-use Rattle.frames.specs.Put.{Puts, Over, wiped}
+use Rattle.frames.specs.Put.{Puts, wiped}
 use Rattle.frames.proofs.Putting.{wiped-back}
 use Rattle.frames_law.proofs.Frames.{told-call}
 use Rattle.calls.specs.declared.Entered.{Entered}
-use Rattle.calls.specs.Enters.{Body, Expands, Outcome, Wrote, Enters}
+use Rattle.calls.specs.Enters.{Expands, Outcome, Wrote, Enters}
 use Rattle.own_law.proofs.Noted.{read-refused}
 use Rattle.own_law.specs.Own.{nothing, own_all}
 use Rattle.own_law.proofs.Calls.{kept}
@@ -54,7 +54,7 @@ use Rattle.items.specs.declared.Marks.{Marks}
 use Rattle.items.specs.declared.Read.{Read}
 use Rattle.items.specs.Walk.{Walked, walked, walked_of, walk, walk_all}
 use Rattle.items.specs.Under.{six_at, nine_at, nine_in, read, inside_at, Scope, sense_of, one_in, all_in}
-use Rattle.items.specs.Came.{Tells, around, On, RowCame, CallAt, CallCame, OutermostCame, All}
+use Rattle.items.specs.Came.{around, RowCame, CallAt, CallCame, OutermostCame, All}
 use Rattle.order_law.proofs.Inside.{any-levels, call_in, body_in, read-apart, behind_by, behind-apart, look-alike}
 use Rattle.plain.specs.Stays.{Refuses, Passes}
 

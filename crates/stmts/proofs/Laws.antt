@@ -3,17 +3,17 @@
 use mathlib.Core.Bool.{Bool, true, false}
 use mathlib.Core.Path.{◌≡◌, refl, sym, ◌∙◌, ap, subst}
 use mathlib.Core.List.{List, ◌∷◌}
-use Prim.Native.Nat.{ℕ, zero, suc, ◌-◌, ◌≤◌}
+use Prim.Native.Nat.{ℕ, suc, ◌-◌, ◌≤◌}
 use native.Mathlib.Omega.{arith}
-use Rattle.meaning.specs.Unexpanded.{Term, Command, choice, while, loop, switch, parallel, Commands, end, Tests, case, Strands, ◌∥◌}
+use Rattle.meaning.specs.Unexpanded.{Term, Command, choice, while, loop, switch, parallel, Commands, Tests, case, Strands, ◌∥◌}
 use Rattle.meaning.specs.Levels.{levels_in}
 use Rattle.language.specs.Words.{Word}
-use Rattle.language.specs.Grammar.{Else, AfterName}
+use Rattle.language.specs.Grammar.{Else}
 use Rattle.descent_law.specs.Rows.{ElseRow, StatementRow}
 use Rattle.descent_law.proofs.Statements.{else_told}
 use Rattle.descent_law.proofs.Leveled.{told-levels}
 use Rattle.hand.specs.declared.Here.{Here}
-use Rattle.hand.specs.Along.{Same, Stands, Near, Begins}
+use Rattle.hand.specs.Along.{Stands, Near, Begins}
 use Rattle.frames_law.specs.Frames.{told_at}
 use Rattle.frames.specs.declared.Under.{Under}
 use Rattle.tiers.specs.Choose.{statement_row, is_plain}

@@ -5,7 +5,7 @@ use mathlib.Core.Path.{◌≡◌, refl, sym, ◌∙◌, ap, subst}
 use mathlib.Core.List.{List, ◌∷◌}
 use Prim.Native.Nat.{ℕ, ◌≤◌}
 use native.Mathlib.Omega.{arith}
-use Rattle.meaning.specs.Unexpanded.{Term, Command, Commands, end, ◌⨾◌, Tests, default, case, Strands, ◌∥◌}
+use Rattle.meaning.specs.Unexpanded.{Term, Commands, end, Tests, default, case, Strands, ◌∥◌}
 use Rattle.meaning.specs.Levels.{levels_in}
 use Rattle.language.specs.Words.{Word}
 use Rattle.language.specs.Grammar.{AfterStatement, Cases, Branches}
@@ -24,7 +24,7 @@ use Rattle.items.specs.declared.Marks.{Marks}
 use Rattle.items.specs.declared.Read.{Read}
 use Rattle.items.specs.declared.Tried.{Tried}
 use Rattle.items.specs.Walk.{cased, with_acts, walked, walked_of, test_of, Test, finished, branched, Walked}
-use Rattle.items.specs.Under.{Scope, sense_of, test_in, one_in, all_in, tests_in, each_in}
+use Rattle.items.specs.Under.{Scope, sense_of, test_in, all_in, tests_in, each_in}
 use Rattle.items.specs.Came.{Finished, Branched, On, around, TestCame, One, All, CaseCame, CasesCame, BranchCame, BranchesCame}
 use Rattle.order_law.proofs.Senses.{quiet_term, end_in, more_in, default_in, case_in, none_in, strand_in}
 use Rattle.stmts.proofs.Laws.{and_on, on_word, on_here, on_fin}

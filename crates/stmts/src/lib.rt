@@ -1,4 +1,6 @@
 // Statements read from a text: what is noted of them, and their nodes written into lent bytes. A statement, a list, cases and branches, one in the other.
+#![tactic(auto)]
+
 ghost use Rattle.std.specs.Prelude.{Bool, true, false, ◌+◌, ◌*◌, ◌≤◌, ◌<◌, length};
 ghost use Rattle.parts.specs.Beside.{beside};
 ghost use Rattle.hand.specs.Along.{Near};
