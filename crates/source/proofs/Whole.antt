@@ -3,10 +3,9 @@
 use mathlib.Core.Bool.{false}
 use mathlib.Core.Path.{◌≡◌, refl, sym, ◌∙◌, ap, subst}
 use mathlib.Core.List.{List, []}
-use Prim.Native.Nat.{ℕ, ◌≤◌, ◌<◌, min}
+use Prim.Native.Nat.{ℕ, ◌≤◌, min}
 use native.Mathlib.Omega.{arith}
 use lib.ListN.{length}
-use Rattle.meaning.specs.Unexpanded.{Procedure}
 use Rattle.meaning.specs.Expansion.{procedures_from}
 use Rattle.language.specs.Texts.{refused, Reads}
 use Rattle.grammar.specs.Meaning.{Says}

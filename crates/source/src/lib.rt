@@ -1,4 +1,6 @@
 // What a text says: refused with 3 to 10, or a program, whose tree lies in lent bytes.
+#![tactic(auto)]
+
 ghost use Rattle.std.specs.Prelude.{◌≡◌, ◌≤◌, length};
 ghost use Rattle.own_law.specs.Noted.{tell_by};
 ghost use Rattle.frames_law.specs.Frames.{no_place};
