@@ -196,6 +196,10 @@ module _ (n : ℕ) (few-states : n ≤ 256) (x : List ℕ) (at : ℕ) where
         });
       }
 
+  -- .. and behind a 0 no digit stands
+  pub so_zero : (v e : ℕ) → ReadSo x at v e → v < n → ¬ (get_or x e 0 ≡ 32) → v ≡ 0 → Left n blanked x at e
+  so_zero v e r h b z = so-stop v e r h (λ l. (b, λ d g p o. absurd (omega (arith, z))))
+
   -- no next state begins with that byte
   pub first-stop : 1 ≤ n → at ≤ length x → (at < length x → (d : ℕ) → d < 10 → get_or x at 0 ≡ 48 + d → n ≤ d) → Left n blanked x at at
   first-stop h hx why =

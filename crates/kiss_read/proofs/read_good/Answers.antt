@@ -32,4 +32,4 @@ pub put_blocks-requires : goal.put_blocks-requires
 put_blocks-requires c = let p : 2 ^ c.args.k ≤ 64 = pow_mono {j = 6} c.requires.sizes.most_inputs in let q = words-few c.args.n (c.pow2-width.result + 1) c.requires.sizes.most_states (omega (arith, c.pow2-width.ensures.0)) in (c.requires.sizes, c.requires.inside, (ap (λ (i : ℕ). i + 1) c.pow2-width.ensures.0), omega arith)
 
 pub returns : goal.returns
-returns c = all_read c.args.text.now c.args.file.now c.args.k c.args.o c.args.n c.args.at (c.pow2-width.result + 1) _ c.requires (ap (λ (i : ℕ). i + 1) c.pow2-width.ensures.0) refl _ c.if-file-total.false c.put_blocks.ensures
+returns c = all_read c.args.text.now c.args.file.now c.args.k c.args.o c.args.n c.args.at (c.pow2-width.result + 1) _ c.requires (ap (λ (i : ℕ). i + 1) c.pow2-width.ensures.0) refl _ (omega arith) c.put_blocks.ensures

@@ -25,4 +25,4 @@ pub returns-then-end-text : goal.returns-then-end-text
 returns-then-end-text c = form-stops c.args.text.now c.opened-end.result.place (past_end c.args.text.now c.opened-end.result.place (goes c.args.text.now 1 (λ (a : ℕ). ascii ".e\n") (λ (a : ℕ). over) c.all_rows-rows.result.place (code_fixed (ascii ".e\n")) (c.all_rows-rows.ensures.on (not-false c.all_rows-rows.result.found c.if-not-rows.false)) c.opened-end.result (c.opened-end.ensures 1 (λ (a : ℕ). ascii ".e\n") c.args.text.now c.all_rows-rows.result.place c.fixed.ensures) (not-false c.opened-end.result.found c.if-not-end.false)) c.if-end-text.true)
 
 pub returns : goal.returns
-returns c = good-text c.args.text.now c.args.k c.args.o c.args.n c.args.at c.opened-end.result.place c.requires (goes c.args.text.now 1 (λ (a : ℕ). ascii ".e\n") (λ (a : ℕ). over) c.all_rows-rows.result.place (code_fixed (ascii ".e\n")) (c.all_rows-rows.ensures.on (not-false c.all_rows-rows.result.found c.if-not-rows.false)) c.opened-end.result (c.opened-end.ensures 1 (λ (a : ℕ). ascii ".e\n") c.args.text.now c.all_rows-rows.result.place c.fixed.ensures) (not-false c.opened-end.result.found c.if-not-end.false)) c.if-end-text.false
+returns c = good-text c.args.text.now c.args.k c.args.o c.args.n c.args.at c.opened-end.result.place c.requires (goes c.args.text.now 1 (λ (a : ℕ). ascii ".e\n") (λ (a : ℕ). over) c.all_rows-rows.result.place (code_fixed (ascii ".e\n")) (c.all_rows-rows.ensures.on (not-false c.all_rows-rows.result.found c.if-not-rows.false)) c.opened-end.result (c.opened-end.ensures 1 (λ (a : ℕ). ascii ".e\n") c.args.text.now c.all_rows-rows.result.place c.fixed.ensures) (not-false c.opened-end.result.found c.if-not-end.false)) (omega arith)

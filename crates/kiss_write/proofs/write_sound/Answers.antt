@@ -20,10 +20,10 @@ pub rows_length-requires : goal.rows_length-requires
 rows_length-requires c = holds c.args.file.now c.args.k c.args.o c.args.n c.requires
 
 pub returns-then-text-length : goal.returns-then-text-length
-returns-then-text-length c = short c.args.file.now c.args.text.now c.args.k c.args.o c.args.n c.requires c.if-k-eq0.false c.if-o-eq0.false (omega (arith, text-length (stream_in c.args.file.now) c.args.k c.args.o c.args.n, c.heading_length.ensures.0, c.rows_length.ensures.0)) c.refused-then-text-length.result c.refused-then-text-length.ensures
+returns-then-text-length c = short c.args.file.now c.args.text.now c.args.k c.args.o c.args.n c.requires c.if-k-eq0.false (omega arith) (omega (arith, text-length (stream_in c.args.file.now) c.args.k c.args.o c.args.n, c.heading_length.ensures.0, c.rows_length.ensures.0)) c.refused-then-text-length.result c.refused-then-text-length.ensures
 
 pub put_text-requires : goal.put_text-requires
 put_text-requires c = (holds c.args.file.now c.args.k c.args.o c.args.n c.requires, omega (arith, text-length (stream_in c.args.file.now) c.args.k c.args.o c.args.n, c.heading_length.ensures.0, c.rows_length.ensures.0))
 
 pub returns : goal.returns
-returns c = made c.args.file.now c.args.text.now c.args.k c.args.o c.args.n c.requires _ c.if-k-eq0.false c.if-o-eq0.false (omega (arith, text-length (stream_in c.args.file.now) c.args.k c.args.o c.args.n, c.heading_length.ensures.0, c.rows_length.ensures.0)) (omega (arith, text-length (stream_in c.args.file.now) c.args.k c.args.o c.args.n, c.heading_length.ensures.0, c.rows_length.ensures.0)) c.put_text.ensures
+returns c = made c.args.file.now c.args.text.now c.args.k c.args.o c.args.n c.requires _ c.if-k-eq0.false (omega arith) (omega (arith, text-length (stream_in c.args.file.now) c.args.k c.args.o c.args.n, c.heading_length.ensures.0, c.rows_length.ensures.0)) (omega (arith, text-length (stream_in c.args.file.now) c.args.k c.args.o c.args.n, c.heading_length.ensures.0, c.rows_length.ensures.0)) c.put_text.ensures
