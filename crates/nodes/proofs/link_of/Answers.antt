@@ -1,3 +1,4 @@
+use borrow.Author.Rules.{rules}
 use mathlib.Core.Path.{◌≡◌, refl}
 use Prim.Native.Nat.{ℕ, zero, suc}
 use Rattle.nodes.specs.Layout.{link_of}
@@ -9,4 +10,4 @@ other zero h0 = absurd (h0 refl)
 other (suc n) h0 = refl
 
 pub returns-in_default : goal.returns-in_default
-returns-in_default c = other _ c.in_default.in_default-own.rest.1
+returns-in_default c = other _ (search rules)

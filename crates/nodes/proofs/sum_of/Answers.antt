@@ -1,3 +1,4 @@
+use borrow.Author.Rules.{rules}
 use mathlib.Core.Path.{◌≡◌, refl}
 use Prim.Native.Nat.{ℕ, zero, suc}
 use Rattle.nodes.specs.Layout.{sum_of}
@@ -12,4 +13,4 @@ other (suc (suc (suc zero))) h0 h1 h2 h3 = absurd (h3 refl)
 other (suc (suc (suc (suc n)))) h0 h1 h2 h3 = refl
 
 pub returns-in_default : goal.returns-in_default
-returns-in_default c = other _ c.in_default.in_default-own.rest.0.0.0.1 c.in_default.in_default-own.rest.0.0.1 c.in_default.in_default-own.rest.0.1 c.in_default.in_default-own.rest.1
+returns-in_default c = other _ (search rules) (search rules) (search rules) (search rules)
