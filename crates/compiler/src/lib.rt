@@ -1,4 +1,6 @@
 // The compile call: what is refused, the search, the file, and the work area all zero at the end.
+#![tactic(auto)]
+
 ghost use Rattle.std.specs.Prelude.{◌≡◌, ◌*◌, ◌^◌, ◌≤◌, length};
 ghost use Rattle.stored.specs.Stored.{Stored};
 ghost use Rattle.language.specs.Promise.{Compiles, Ready};

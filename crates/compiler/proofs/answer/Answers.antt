@@ -1,0 +1,19 @@
+-- `compiler::answer` meets its contract.
+-- Assumes nothing.
+use native.Mathlib.Omega.{arith}
+use mathlib.Core.Path.{sym, ◌∙◌}
+use Rattle.source.proofs.Lent.{good-stored, good_copied}
+use Rattle.compiler.proofs.Ends.{k_small, ready_for, fault-ends}
+use Rattle.compiler.proofs.answer.Goals as goal
+
+pub returns-in-Fault : goal.returns-in-Fault
+returns-in-Fault c = (fault-ends c.args.source.now c.read-told.new.work c.read-told.result c.read-told.ensures.0 c.in-Fault.is c.requires, c.read-told.ensures.1)
+
+pub pow2-requires : goal.pow2-requires
+pow2-requires c = omega (arith, k_small (good-stored c.args.source.now c.read-told.new.work c.read-told.result c.read-told.ensures.0 c.in-Good.is))
+
+pub finish-requires : goal.finish-requires
+finish-requires c = let g = good_copied c.args.source.now c.read-told.new.work c.read-told.result c.read-told.ensures.0 c.in-Good.is c.tree-tree.ensures in (g, omega (arith, g.few), c.pow2.ensures.0, ready_for c.read-told.new.work c.read-told.ensures.1 c.requires, omega arith)
+
+pub returns-in-Good : goal.returns-in-Good
+returns-in-Good c = (λ w h. c.finish.ensures.0 w (h ∙ sym c.read-told.ensures.1), c.finish.ensures.1 ∙ c.read-told.ensures.1)
