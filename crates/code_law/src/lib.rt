@@ -1,1 +1,3 @@
+#![tactic(auto)]
+
 // What the numbers that C gets tell: definitions and laws alone.

@@ -1,10 +1,8 @@
 -- The expanded program of a text has a statement in each list of a case or a branch, and no number above 65,535.
 -- Assumes nothing.
-use mathlib.Core.Path.{◌≡◌}
 use mathlib.Core.List.{List, [], ◌∷◌, ◌++◌}
-use Prim.Native.Nat.{ℕ, zero, suc, ◌≤◌}
+use Prim.Native.Nat.{ℕ, zero, suc}
 use native.Mathlib.Omega.{arith}
-use Rattle.meaning.specs.Tree.{Name, Stmts, Branches}
 use Rattle.meaning.specs.Declared.{Source}
 use Rattle.meaning.specs.Items.{items, items_all, items_cases, items_each}
 use Rattle.meaning.specs.Unexpanded.{Term, literal, truth, variable, bit, not, int, arithmetic, comparison, logic, parens, instead, no_name, Command, skip, delay, change, assign, choice, while, loop, exit, break, switch, parallel, call, passing, Commands, end, ◌⨾◌, Tests, default, case, Strands, ◌∥◌, Unexpanded}

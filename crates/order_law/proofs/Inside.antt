@@ -1,10 +1,10 @@
 -- Inside a call no level is told, so those open around do not matter; every place told is the call's; and the frames of calls lie apart from what is walked.
 -- Assumes nothing.
-use mathlib.Core.Path.{◌≡◌, refl, sym, ap, ap₂, fun_ext, ◌∙◌}
+use mathlib.Core.Path.{◌≡◌, refl, sym, ap, fun_ext, ◌∙◌}
 use mathlib.Core.Bool.{Bool, true, false, cond}
 use mathlib.Core.List.{List, [], ◌∷◌, ◌++◌, map}
-use mathlib.Core.Option.{Option, some}
-use Prim.Native.Nat.{ℕ, zero, suc, ◌+◌, ◌*◌, ◌/◌, ◌%◌, ◌≤◌, ◌<◌}
+use mathlib.Core.Option.{Option}
+use Prim.Native.Nat.{ℕ, zero, suc, ◌+◌, ◌*◌, ◌≤◌, ◌<◌}
 use native.Mathlib.Omega.{arith}
 use lib.Dec.{ltb, eqb}
 use lib.ListN.{length, get_or, set, take, length-set, length-take}
@@ -16,9 +16,7 @@ use Rattle.meaning.specs.Unexpanded.{Term, Command, skip, delay, change, assign,
 use Rattle.meaning.specs.Unexpanded as unexpanded
 use Rattle.meaning.specs.Levels.{most_levels, levels_in}
 use Rattle.meaning.specs.Base.{base_all}
-use Rattle.meaning.specs.Expansion.{Bound, moved, replaced, expand, expand_all, called, outermost}
-use Rattle.language.specs.Words.{same}
-use Rattle.words.specs.Runs.{part}
+use Rattle.meaning.specs.Expansion.{moved, replaced, expand, expand_all, called, outermost}
 use Rattle.own_law.specs.Noted.{deep_at, noted, noted_all, noted_tests, noted_each}
 use Rattle.names.specs.Look.{place_at, end_at, kind_at, entry_at, look_from, look_in}
 use Rattle.parts.specs.Beside.{tree_bytes}

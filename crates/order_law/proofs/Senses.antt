@@ -3,7 +3,7 @@
 use mathlib.Core.Path.{◌≡◌, refl, sym, ap, subst, ◌∙◌}
 use mathlib.Core.Bool.{Bool, true, false, cond}
 use mathlib.Core.List.{List, []}
-use Prim.Native.Nat.{ℕ, suc, ◌+◌, ◌-◌, ◌≤◌, ◌<◌, max}
+use Prim.Native.Nat.{ℕ, suc, ◌+◌, ◌≤◌}
 use native.Mathlib.Omega.{arith}
 use lib.Dec.{ltb}
 use borrow.Author.Tests.{ltb-false, le-ltb}
@@ -19,9 +19,8 @@ use Rattle.parts.specs.Sum.{sum}
 use Rattle.frames_law.specs.Frames.{no_place, Framed}
 use Rattle.frames.specs.declared.Under.{Under}
 use Rattle.frames.specs.Layout.{frames_of}
-use Rattle.items.specs.declared.Marks.{Marks}
-use Rattle.items.specs.Walk.{Walked, walked, Test, test_at, walk, walk_all, begun, cased, delayed, leaves, with_acts, together, finished, branched, begun_at, change_at, assign_at}
-use Rattle.items.specs.Under.{six_at, nine_at, nine_in, Sense, read, read_tests, read_each, test_in, one_in, all_in, tests_in, each_in, Scope, sense_of}
+use Rattle.items.specs.Walk.{Walked, walked, Test, walk, begun, cased, delayed, leaves, with_acts, together, finished, branched, begun_at, change_at, assign_at}
+use Rattle.items.specs.Under.{six_at, nine_at, nine_in, Sense, test_in, one_in, all_in, tests_in, each_in, Scope, sense_of}
 use Rattle.order_law.proofs.Order.{in_order}
 use Rattle.order_law.proofs.Compound.{read-choice, read-while, read-loop, read-switch, read-parallel, read_strand, read-case}
 

@@ -11,7 +11,7 @@ use Rattle.meaning.specs.Unexpanded as unexpanded
 use Rattle.meaning.specs.Levels.{most_levels, levels_in, too_deep, level_fault, level_faults, level_tests, level_each}
 use Rattle.meaning.specs.Expansion.{expanded_body}
 use Rattle.meaning.specs.Procedures.{has_name, formals_again, clashes, found_in, found_all, found_tests, found_each, calls_refused, calls_passing, added_names, added_sizes}
-use Rattle.kept_law.specs.Kept.{Every, Near, LowName, LowDeclared, Kept, KeptAll, KeptTests, KeptEach, KeptProcedure, KeptDeclared, KeptProgram}
+use Rattle.kept_law.specs.Kept.{Every, Near, LowName, LowDeclared, Kept, KeptAll, KeptTests, KeptEach, KeptDeclared, KeptProgram}
 use Rattle.kept_law.proofs.Expanded.{expanded-kept}
 use Rattle.places_law.specs.Places.{Low}
 use Rattle.places_law.proofs.Lists.{low-append, low-when}

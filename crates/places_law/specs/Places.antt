@@ -1,6 +1,6 @@
 -- The places of a tree are places of a short text, and its literals are numbers that a text can have.
 -- Assumes nothing.
-use Rattle.std.specs.Prelude.{◌≡◌, List, [], ◌∷◌, ℕ, ◌≤◌}
+use Rattle.std.specs.Prelude.{List, [], ◌∷◌, ℕ, ◌≤◌}
 use Rattle.meaning.specs.Tree.{Name, Expr, literal, truth, variable, bit, not, int, arithmetic, comparison, logic, Target, whole, part, Stmt, skip, delay, change, assign, choice, while, loop, exit, break, switch, parallel, Stmts, end, ◌⨾◌, Cases, default, case, Branches, none, ◌∥◌}
 use Rattle.meaning.specs.Items.{Item, statement, test}
 use Rattle.language.specs.Words.{largest_number}

@@ -3,15 +3,15 @@
 use mathlib.Core.Path.{◌≡◌, sym, ◌∙◌, ap, subst}
 use mathlib.Core.List.{List, [], ◌++◌, append-nil}
 use mathlib.Core.Option.{Option}
-use Prim.Native.Nat.{ℕ, ◌+◌, ◌*◌, ◌≤◌, ◌<◌}
+use Prim.Native.Nat.{ℕ, ◌+◌, ◌*◌, ◌<◌}
 use native.Mathlib.Omega.{arith}
-use lib.ListN.{length, get_or, drop}
+use lib.ListN.{get_or, drop}
 use Rattle.file_law.specs.Table.{most_inputs, most_outputs}
 use Rattle.meaning.specs.Numbers.{Variable}
 use Rattle.meaning.specs.Declared.{Declaration, input_count, output_count, initial_word, look_up}
 use Rattle.meaning.specs.Names.{gather, again_from}
 use Rattle.meaning.specs.Sizes.{input_places, output_places, bits_from, width_fault}
-use Rattle.meaning.specs.Unexpanded.{Unexpanded, Procedure}
+use Rattle.meaning.specs.Unexpanded.{Unexpanded}
 use Rattle.meaning.specs.Expansion.{procedures_from, variables_of}
 use Rattle.meaning.specs.Procedures.{clashes}
 use Rattle.meaning.proofs.Declared.{bits_most}
@@ -23,7 +23,7 @@ use Rattle.decls.specs.declared.Read.{Read}
 use Rattle.decls.specs.Held.{Held, enter_each}
 use Rattle.decls.specs.Came.{held_of}
 use Rattle.decls_law.specs.Rows.{Placed, Filled, Fills, Alike}
-use Rattle.decls_law.proofs.Sizes.{inputs-all, outputs-all, names-all, nine_is}
+use Rattle.decls_law.proofs.Sizes.{inputs-all, outputs-all, nine_is}
 use Rattle.decls_law.proofs.Looked.{capped_of, look_frame}
 use Rattle.decls_law.proofs.Word.{word_is}
 use Rattle.decls_law.proofs.Capped.{few-inputs, look-small}

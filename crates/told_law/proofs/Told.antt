@@ -4,11 +4,10 @@ use mathlib.Core.Bool.{false}
 use mathlib.Core.Path.{◌≡◌, refl, sym, ◌∙◌, ap, subst}
 use mathlib.Core.List.{List, [], ◌++◌, map, append_assoc}
 use mathlib.Core.Option.{Option, none}
-use Prim.Native.Nat.{ℕ, ◌*◌, ◌≤◌, ◌<◌, min}
+use Prim.Native.Nat.{ℕ, ◌≤◌, ◌<◌, min}
 use native.Mathlib.Omega.{arith}
 use lib.ListN.{length, get_or, drop}
 use Rattle.file_law.specs.Table.{most_inputs, most_outputs}
-use Rattle.meaning.specs.Tree.{Name, Stmts}
 use Rattle.meaning.specs.Numbers.{Variable}
 use Rattle.meaning.specs.Declared.{Source, look_up, Declaration}
 use Rattle.meaning.specs.Items.{Item, items_all, parts_of, place_of}
@@ -18,12 +17,10 @@ use Rattle.meaning.specs.Jumps.{jump_faults}
 use Rattle.meaning.specs.Sizes.{input_places, output_places, bits_from, width_fault, most_statements, most_parts, statement_place, item_size, size_faults}
 use Rattle.meaning.specs.Worst.{worst_faults}
 use Rattle.meaning.specs.Checked.{program_of}
-use Rattle.meaning.specs.Faults.{Fault}
-use Rattle.meaning.specs.Unexpanded.{Commands, Unexpanded}
+use Rattle.meaning.specs.Unexpanded.{Unexpanded}
 use Rattle.meaning.specs.Base.{base_all}
-use Rattle.meaning.specs.Levels.{level_faults}
 use Rattle.meaning.specs.Expansion.{variables_of, expanded_body, expanded}
-use Rattle.meaning.specs.Procedures.{clashes, calls_refused, calls_passing, added_names, added_sizes, fault_in}
+use Rattle.meaning.specs.Procedures.{clashes, calls_refused, added_names, added_sizes, fault_in}
 use Rattle.meaning.proofs.Procedures.{expanded-good}
 use Rattle.nodes.specs.Decode.{list_at}
 use Rattle.nodes.specs.Ready.{Ready}
@@ -34,13 +31,13 @@ use Rattle.own_law.proofs.Noted.{noted_six, noted_seven, noted-eight, noted-nine
 use Rattle.frames_law.specs.Frames.{no_place}
 use Rattle.items.specs.declared.Marks.{Marks}
 use Rattle.items.specs.Walk.{start_marks, Walked, walked, walk_all}
-use Rattle.items.specs.Under.{six_at, nine_at, nine_in, read}
+use Rattle.items.specs.Under.{six_at, nine_in, read}
 use Rattle.alike_law.proofs.Alike.{Alike, marks-alike}
 use Rattle.stmts_law.proofs.Faults.{six_all, seven_all, ten_all}
 use Rattle.stmts_law.proofs.Jumps.{eight-all}
 use Rattle.stmts_law.proofs.Nine.{nine-body}
 use Rattle.formed_law.proofs.Formed.{Formed}
-use Rattle.places_law.specs.Places.{Low, LowAll}
+use Rattle.places_law.specs.Places.{LowAll}
 use Rattle.places_law.proofs.Lists.{six_low, seven_low, eight-low, nine-low, ten_low}
 use Rattle.places_law.proofs.Trees.{base-low}
 use Rattle.places_law.proofs.Added.{refused-low, sizes-low}

@@ -13,18 +13,16 @@ use Rattle.meaning.specs.Declared.{look_up}
 use Rattle.meaning.specs.Kinds.{changeable, assignable}
 use Rattle.meaning.specs.Checked.{program_of}
 use Rattle.meaning.specs.Faults.{Fault}
-use Rattle.meaning.specs.Unexpanded.{Commands, Procedure}
-use Rattle.meaning.specs.Expansion.{procedures_from, outermost, expand_all, expanded_body, expanded}
+use Rattle.meaning.specs.Expansion.{procedures_from, expanded_body, expanded}
 use Rattle.meaning.specs.Procedures.{fault_in}
 use Rattle.meaning.proofs.Faults.{none_exactly}
 use Rattle.meaning.proofs.Sizes.{sized}
 use Rattle.meaning.proofs.Procedures.{expanded-good}
-use Rattle.language.specs.Texts.{good, refused, Reads, tree, fine}
+use Rattle.language.specs.Texts.{refused, Reads, tree, fine}
 use Rattle.language.specs.Grammar.{most_levels}
 use Rattle.stored.specs.Stored.{Stored}
 use Rattle.names.specs.Look.{look_in}
 use Rattle.frames_law.specs.Frames.{no_place, told_at}
-use Rattle.frames_law.proofs.Frames.{told-own}
 use Rattle.frames.specs.declared.Under.{Under}
 use Rattle.decls.specs.declared.Read as declared
 use Rattle.decls_law.specs.Rows.{Filled, Fills}
@@ -33,8 +31,8 @@ use Rattle.decls_law.proofs.Capped.{capped_missing, capped_kind, capped_bit, cap
 use Rattle.own_law.specs.Noted.{tell_by}
 use Rattle.items.specs.declared.Read.{Read}
 use Rattle.items.specs.Walk.{start_marks, Walked, walked, walked_of}
-use Rattle.items.specs.Under.{Scope, read, all_in, sense_of}
-use Rattle.items.specs.Came.{All, around}
+use Rattle.items.specs.Under.{Scope}
+use Rattle.items.specs.Came.{All}
 use Rattle.alike_law.proofs.Alike.{Alike}
 use Rattle.formed_law.proofs.Formed.{formed_kept}
 use Rattle.tree_law.proofs.Program.{Program}

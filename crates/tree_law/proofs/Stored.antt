@@ -22,7 +22,7 @@ use Rattle.meaning.proofs.Eight.{same-all}
 use Rattle.language.specs.Trees.{Name}
 use Rattle.nodes.specs.Decode.{expr_at, most_deep}
 use Rattle.nodes.specs.Looks.{looks}
-use Rattle.nodes.specs.Fit.{is_whole, Fit}
+use Rattle.nodes.specs.Fit.{Fit}
 use Rattle.nodes.specs.Good.{GoodTest, first_number}
 use Rattle.parts.specs.Sum.{Sum, sum, at_six, at_seven}
 use Rattle.expr_law.proofs.Placed.{Placed}
