@@ -5,3 +5,4 @@ pub mod Acts
 pub mod Counts
 pub mod Nine
 pub mod Numbers
+pub mod Nodes
