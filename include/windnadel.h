@@ -42,7 +42,7 @@
  *
  * Sizes. libstepper.a has 2.3 KB of code and 1 KB of constants, and no data;
  * open takes less than 1.2 KB of stack, step and outputs less than 64 bytes.
- * libcompiler.a has 67 KB of code and constants, and no data; compile recurses as
+ * libcompiler.a has 80 KB of code and constants, and no data; compile recurses as
  * deep as a source nests, 32 levels at most, and as deep as its calls go; it takes
  * less than 192 KB of stack for a source without calls, and less than 640 KB for
  * the longest chain of calls that a source can hold.
