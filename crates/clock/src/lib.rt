@@ -15,7 +15,7 @@ pub struct State {
 }
 
 // The next state, and the input bits that were looked at.
-#[derive(Drop)]
+#[derive(Clone, Copy)]
 pub struct Clocked {
     pub state: State,
     pub looked: u8,

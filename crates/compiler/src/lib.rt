@@ -16,7 +16,7 @@ mod behind;
 const FUEL: u16 = 1536;
 
 // So many states and blocks, or a refusal with its number and place.
-#[derive(Drop)]
+#[derive(Clone, Copy)]
 pub enum Compiled {
     Made { states: u32, blocks: u32 },
     Refused { number: u32, place: u32 },

@@ -98,7 +98,7 @@ fn block_count(n: u32, inputs: usize) -> usize
     ((2 + n as usize * (inputs + 1)) * 2 + 503) / 504
 }
 
-#[derive(Drop)]
+#[derive(Clone, Copy)]
 pub enum Filed {
     Blocks(u16),
     Short,

@@ -9,7 +9,7 @@ use clock::State;
 use rows::{bytes, row};
 
 // A state's number, or the slot for it.
-#[derive(Drop)]
+#[derive(Clone, Copy)]
 pub enum Look {
     Known(usize),
     New(usize),

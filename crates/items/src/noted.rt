@@ -146,6 +146,7 @@ pub fn with_acts(m: Marks, a: u8) -> Marks
 }
 
 // A delay of n clocks, its number at p.
+#[tactic(auto, using(crate::proofs::Delayed::short_delay))]
 pub fn delayed(m: Marks, n: u16, p: u16) -> Marks
     ensures { result ≡ spec.delayed m n p }
 {

@@ -6,14 +6,14 @@ ghost use Rattle.kiss_law.specs.Text.{decimal, bits, size_line, row_head};
 ghost use Rattle.kiss_fields.specs.Took.{Agrees, Took, Same, Digit, ReadSo};
 
 // A field: which of its texts stands here and where that ends, or the place where the text leaves them.
-#[derive(Drop)]
+#[derive(Clone, Copy)]
 pub enum Taken {
     Found { value: u32, end: usize },
     Stop { place: usize },
 }
 
 // The same as one record: the place is where the field ends, or where the text leaves it.
-#[derive(Drop)]
+#[derive(Clone, Copy)]
 pub struct Field {
     pub found: bool,
     pub value: u32,

@@ -11,7 +11,7 @@ ghost use Rattle.kiss_read.specs.Meaning.{meaning};
 use kiss_walk::Walked;
 
 // The file's blocks, or a refusal with its number and place.
-#[derive(Drop)]
+#[derive(Clone, Copy)]
 pub enum Unkissed {
     File { blocks: u32 },
     Refused { number: u32, place: usize },

@@ -8,7 +8,7 @@ ghost use Rattle.kiss_law.specs.Forms.{TextSizes};
 ghost use Rattle.kiss_walk.specs.Walk.{Stands, rows_form, in_form, Went, Headed, HeadedSo, Checked};
 
 // The sizes and the place of the first row, or the place where the text stops being one.
-#[derive(Drop)]
+#[derive(Clone, Copy)]
 pub enum Walked {
     Good {
         inputs: u32,

@@ -13,7 +13,7 @@ ghost use Rattle.kiss_write.specs.Meaning.{meaning};
 use reader::Opened;
 
 // The text's length, or a refusal with its number and place.
-#[derive(Drop)]
+#[derive(Clone, Copy)]
 pub enum Kissed {
     Text { length: u32 },
     Refused { number: u32, place: u32 },

@@ -18,7 +18,7 @@ pub enum Sum {
     Remainder,
 }
 
-#[derive(Drop)]
+#[derive(Clone, Copy)]
 pub enum Test {
     Equal,
     Unequal,
@@ -26,13 +26,13 @@ pub enum Test {
     Less,
 }
 
-#[derive(Drop)]
+#[derive(Clone, Copy)]
 pub enum Link {
     And,
     Or,
 }
 
-#[derive(Drop)]
+#[derive(Clone, Copy)]
 pub enum Kind {
     Literal(u16),
     Truth(bool),
@@ -47,13 +47,13 @@ pub enum Kind {
     Logic(Link, u16, u16),
 }
 
-#[derive(Drop)]
+#[derive(Clone, Copy)]
 pub struct Part {
     pub place: u16,
     pub kind: Kind,
 }
 
-#[derive(Drop)]
+#[derive(Clone, Copy)]
 pub enum Change {
     Raise,
     Lower,
@@ -61,7 +61,7 @@ pub enum Change {
 }
 
 // A boolean has the width 0.
-#[derive(Drop)]
+#[derive(Clone, Copy)]
 pub struct Target {
     pub low: u16,
     pub width: u16,
@@ -69,7 +69,7 @@ pub struct Target {
 }
 
 // A list starts with the next number. A choice and a case have the number where their first list ends.
-#[derive(Drop)]
+#[derive(Clone, Copy)]
 pub enum What {
     Skip,
     Delay(u16, u16),
@@ -86,7 +86,7 @@ pub enum What {
 }
 
 // How a statement is resumed. A choice has the number where its first list ends.
-#[derive(Drop)]
+#[derive(Clone, Copy)]
 pub enum Shape {
     Plain,
     Waiting(u16),
@@ -97,13 +97,13 @@ pub enum Shape {
 }
 
 // What stands among the cases of a switch.
-#[derive(Drop)]
+#[derive(Clone, Copy)]
 pub enum Among {
     Test(u16, u16),
     Default,
 }
 
-#[derive(Drop)]
+#[derive(Clone, Copy)]
 pub struct Node {
     pub place: u16,
     pub what: What,

@@ -5,7 +5,7 @@ ghost use Rattle.plain.specs.Aim.{name_aim, whole_aim, part_aim};
 use frames::Meant;
 
 // The variable with the name from a to b, or its bit j; a name without bytes is unknown.
-#[derive(Drop)]
+#[derive(Clone, Copy)]
 pub struct Aim {
     pub a: u16,
     pub b: u16,

@@ -13,7 +13,7 @@ mod blocks;
 mod rows;
 
 // The sizes that a file states, or a refusal with its number and place.
-#[derive(Drop)]
+#[derive(Clone, Copy)]
 pub enum Opened {
     Sound {
         inputs: u32,

@@ -28,15 +28,14 @@ fn stepped(
     match parsed {
         Parsed::Number(input) => {
             let stands = stepper::step(file, state, input);
-            let next = match stands {
-                Stands::At { state, outputs: _ } => state,
+            show::stands(rt, stands, outputs)?;
+            match stands {
+                Stands::At { state, outputs: _ } => Ok(state),
                 Stands::Refused {
                     number: _,
                     place: _,
-                } => state,
-            };
-            show::stands(rt, stands, outputs)?;
-            Ok(next)
+                } => Ok(state),
+            }
         }
         Parsed::Not => {
             show::text(rt, b": not a number below 2^32\n")?;

@@ -25,14 +25,14 @@ pub struct Task {
 }
 
 // So many states, or more than the room.
-#[derive(Drop)]
+#[derive(Clone, Copy)]
 pub enum Turn {
     Goes(usize),
     Over,
 }
 
 // So many states and what was looked at, or more than the room.
-#[derive(Drop)]
+#[derive(Clone, Copy)]
 pub enum Step {
     Met(usize, u8),
     Full,

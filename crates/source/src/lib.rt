@@ -17,14 +17,14 @@ use parts::marks;
 mod area;
 
 // A program without a fault; or a refusal with its number and place.
-#[derive(Drop)]
+#[derive(Clone, Copy)]
 pub enum Answer {
     Good,
     Refused { number: u32, place: u32 },
 }
 
 // A program of n statements and case tests, with its inputs, its outputs and the value word at the start; or a refusal with its number and place.
-#[derive(Drop)]
+#[derive(Clone, Copy)]
 pub enum Told {
     Good {
         n: u16,

@@ -61,6 +61,7 @@ pub fn over(m: Tally) -> bool
 }
 
 // Z5: one statement more.
+#[tactic(auto, using(crate::proofs::Taken::begun_full))]
 pub fn begun(m: Tally) -> Tally
     ensures { result ≡ begun_tally m }
 {
@@ -80,6 +81,7 @@ pub fn begun(m: Tally) -> Tally
 }
 
 // Z6: so many parts more.
+#[tactic(auto, using(crate::proofs::Taken::parted_full))]
 fn parted(m: Tally, parts: u16) -> Tally
     ensures { result ≡ parted_tally m parts }
 {

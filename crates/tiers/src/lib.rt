@@ -10,7 +10,7 @@ ghost use Rattle.tiers.specs.Choose.{IsHow, operand_row, strength_of, statement_
 mod strengths;
 
 // The operators of a strength: none, those between operands, or one before its operand.
-#[derive(Drop)]
+#[derive(Clone, Copy)]
 pub enum How {
     Operand,
     Between,

@@ -145,7 +145,7 @@ fn leaf(t: &[u8; 16384], word: u32, inputs: u32, j: u16) -> i64
 }
 
 // A part of a row of `+` and `-`: its operator and operands; or something else.
-#[derive(Drop)]
+#[derive(Clone, Copy)]
 pub enum Term {
     Added(Sum, u16, u16),
     Other,

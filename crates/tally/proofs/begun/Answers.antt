@@ -8,8 +8,5 @@ use Rattle.tally.proofs.begun.Goals as goal
 pub returns-then-m : goal.returns-then-m
 returns-then-m c = begun_over c.args.m c.if-m.true
 
-pub returns-then-m-ge255 : goal.returns-then-m-ge255
-returns-then-m-ge255 c = c.full.ensures ∙ begun_full c.args.m c.if-m.false (omega (arith, c.if-m-ge255.true))
-
 pub returns : goal.returns
-returns c = begun_more c.args.m c.if-m.false (omega (arith, c.if-m-ge255.false))
+returns c = begun_more c.args.m c.if-m.false (omega arith)

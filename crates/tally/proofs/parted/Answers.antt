@@ -8,8 +8,5 @@ use Rattle.tally.proofs.parted.Goals as goal
 pub returns-then-m : goal.returns-then-m
 returns-then-m c = parted_over c.args.m c.args.parts c.if-m.true
 
-pub returns-then-n-gt1024 : goal.returns-then-n-gt1024
-returns-then-n-gt1024 c = c.full.ensures ∙ parted_full c.args.m c.args.parts c.if-m.false (omega (arith, c.if-n-gt1024.true))
-
 pub returns : goal.returns
-returns c = parted-more c.args.m c.args.parts c.if-m.false (omega (arith, c.if-n-gt1024.false))
+returns c = parted-more c.args.m c.args.parts c.if-m.false (omega arith)

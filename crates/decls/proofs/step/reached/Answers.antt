@@ -20,4 +20,4 @@ pub loop-h-smaller : goal.loop-h-smaller
 loop-h-smaller c = omega (arith, c.word_from-h.ensures.later, c.word_from-h.ensures.near.on, c.word_from-h.ensures.near.inside, c.loop-h.invariant.near.inside, c.loop-h.invariant.near.more (omega (arith, c.if-h-gt62.false)))
 
 pub loop-h-preserved : goal.loop-h-preserved
-loop-h-preserved c = reach_on c.loop-h.invariant c.if-h-eq57.false c.if-h-gt62.false c.word_from-h.ensures
+loop-h-preserved c = reach_on c.loop-h.invariant (λ e. omega (arith, e)) c.if-h-gt62.false c.word_from-h.ensures

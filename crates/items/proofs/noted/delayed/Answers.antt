@@ -6,10 +6,6 @@ use native.Mathlib.Omega.{arith}
 use mathlib.Core.Path.{refl}
 use Rattle.items.proofs.noted.delayed.Goals as goal
 
-pub returns-then-n-le255 : goal.returns-then-n-le255
-unfolding delayed
-returns-then-n-le255 c = let a = c.args in let e = le-leb a.n 255 (omega arith) in rw e refl
-
 pub returns : goal.returns
 unfolding delayed
 returns c = let a = c.args in let e = lt-leb a.n 255 (omega arith) in rw (e, c.with_notes.ensures, c.at_nine.ensures) refl
