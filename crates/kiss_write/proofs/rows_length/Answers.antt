@@ -11,10 +11,10 @@ pub state_length-sum-requires : goal.state_length-sum-requires
 state_length-sum-requires c = (c.requires, c.loop-state-test.true)
 
 pub overflow_add-sum : goal.overflow_add-sum
-overflow_add-sum c = omega (arith, c.state_length-sum.ensures, state-length (stream_in c.args.file.now) c.args.k c.args.o c.args.n c.loop-state.state c.loop-state-test.true, rows_short (stream_in c.args.file.now) c.args.k c.args.o c.args.n c.requires.size)
+overflow_add-sum c = omega (arith, c.state_length-sum.ensures, state-length (stream_in c.args.file.now) c.args.z.inputs c.args.z.outputs c.args.z.states c.loop-state.state c.loop-state-test.true, rows_short (stream_in c.args.file.now) c.args.z.inputs c.args.z.outputs c.args.z.states c.requires.size)
 
 pub loop-state-preserved : goal.loop-state-preserved
-loop-state-preserved c = omega (arith, c.state_length-sum.ensures, state-length (stream_in c.args.file.now) c.args.k c.args.o c.args.n c.loop-state.state c.loop-state-test.true)
+loop-state-preserved c = omega (arith, c.state_length-sum.ensures, state-length (stream_in c.args.file.now) c.args.z.inputs c.args.z.outputs c.args.z.states c.loop-state.state c.loop-state-test.true)
 
 pub returns : goal.returns
-returns c = let z = ap length (rows_over (stream_in c.args.file.now) c.args.k c.args.o c.args.n c.loop-state.state c.loop-state-test.false) in omega (arith, rows_short (stream_in c.args.file.now) c.args.k c.args.o c.args.n c.requires.size)
+returns c = let z = ap length (rows_over (stream_in c.args.file.now) c.args.z.inputs c.args.z.outputs c.args.z.states c.loop-state.state c.loop-state-test.false) in omega (arith, rows_short (stream_in c.args.file.now) c.args.z.inputs c.args.z.outputs c.args.z.states c.requires.size)

@@ -35,13 +35,10 @@ pub overflow_add-sum : goal.overflow_add-sum
 overflow_add-sum c = omega (arith, c.requires.0.size.inputs, c.requires.0.size.outputs, c.requires.0.size.states, c.digits.ensures, c.digits-in-loop-input.ensures, length-decimal 5 c.args.state, length-decimal 5 c.next_at.result)
 
 pub overflow_add-sum-in-loop-input : goal.overflow_add-sum-in-loop-input
-overflow_add-sum-in-loop-input c = omega (arith, c.requires.0.size.inputs, c.requires.0.size.outputs, c.requires.0.size.states, c.digits.ensures, c.digits-in-loop-input.ensures, length-decimal 5 c.args.state, length-decimal 5 c.next_at.result, state-short (stream_in c.args.file.now) c.args.k c.args.o c.args.state c.requires.0.size.inputs c.requires.0.size.outputs)
-
-pub overflow_add-input : goal.overflow_add-input
-overflow_add-input c = omega (arith, c.loop-input-test.true)
+overflow_add-sum-in-loop-input c = omega (arith, c.requires.0.size.inputs, c.requires.0.size.outputs, c.requires.0.size.states, c.digits.ensures, c.digits-in-loop-input.ensures, length-decimal 5 c.args.state, length-decimal 5 c.next_at.result, state-short (stream_in c.args.file.now) c.args.z.inputs c.args.z.outputs c.args.state c.requires.0.size.inputs c.requires.0.size.outputs)
 
 pub loop-input-preserved : goal.loop-input-preserved
-loop-input-preserved c = let d : c.digits-in-loop-input.result ≡ length (decimal (next_at (stream_in c.args.file.now) c.args.k c.args.state c.loop-input.input)) = c.digits-in-loop-input.ensures ∙ ap (λ (x : ℕ). length (decimal x)) c.next_at.ensures.0 in omega (arith, c.digits.ensures, row-length (stream_in c.args.file.now) c.args.k c.args.o c.args.state c.loop-input.input (omega (arith, c.loop-input-test.true, c.pow2-end.ensures.0)))
+loop-input-preserved c = let d : c.digits-in-loop-input.result ≡ length (decimal (next_at (stream_in c.args.file.now) c.args.z.inputs c.args.state c.loop-input.input)) = c.digits-in-loop-input.ensures ∙ ap (λ (x : ℕ). length (decimal x)) c.next_at.ensures.0 in omega (arith, c.digits.ensures, row-length (stream_in c.args.file.now) c.args.z.inputs c.args.z.outputs c.args.state c.loop-input.input (omega (arith, c.loop-input-test.true, c.pow2-end.ensures.0)))
 
 pub returns : goal.returns
-returns c = let z = ap length (state_over (stream_in c.args.file.now) c.args.k c.args.o c.args.state c.loop-input.input (omega (arith, c.loop-input-test.false, c.pow2-end.ensures.0))) in omega arith
+returns c = let z = ap length (state_over (stream_in c.args.file.now) c.args.z.inputs c.args.z.outputs c.args.state c.loop-input.input (omega (arith, c.loop-input-test.false, c.pow2-end.ensures.0))) in omega arith
