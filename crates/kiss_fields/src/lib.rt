@@ -18,6 +18,7 @@ fn agree(text: &[u8], at: usize, word: &[u8]) -> usize
     ensures { Agrees text.now at word.now result }
 {
     let most = word.len().min(text.len() - at);
+    // A for over an index of both: tried `zip` with `take_while` and `count`, and the proof did not close at `returns`, the count of the pairs.
     for i in 0..most {
         if text[at + i] != word[i] {
             return i;
