@@ -3,14 +3,13 @@
 
 ghost use Rattle.std.specs.Prelude.{◌≡◌, ◌+◌, ◌^◌, ◌≤◌, ◌<◌, length};
 ghost use Rattle.kiss_law.specs.Kiss.{KissReads};
-ghost use Rattle.kiss_law.specs.Forms.{TextSizes};
 ghost use Rattle.kiss_walk.specs.Walk.{GoodText};
 ghost use Rattle.kiss_read.specs.Cursor.{RowIs, WordIs, PieceIs, BlockIs, FileIs};
 ghost use Rattle.kiss_read.specs.Meaning.{meaning};
 
-use kiss_walk::Walked;
+use kiss_walk::{Sizes, Walked};
 use refusals::{Cause, Refusal};
-use stream::sizes::{self, Sizes};
+use stream::sizes::pow2;
 
 // A row: its next state, its outputs, and where it ends.
 #[derive(Drop)]
@@ -22,7 +21,7 @@ struct Line {
 
 // The row from `at` on, or the place where the text leaves it.
 fn row(text: &[u8], at: usize, z: Sizes, state: u32, input: u32) -> Result<Line, usize>
-    requires { TextSizes z.inputs z.outputs z.states × (at ≤ length text.now) × (state < z.states) }
+    requires { (at ≤ length text.now) × (state < z.states) }
     ensures { RowIs text.now z.inputs z.outputs z.states state input at result }
 {
     let head = kiss_fields::head(text, at, z.inputs, state, input)?;
@@ -47,7 +46,7 @@ struct Got {
 
 // Word w of the stream, which is 0 behind its end.
 fn word(text: &[u8], w: u32, at: usize, z: Sizes, width: u32) -> Got
-    requires { TextSizes z.inputs z.outputs z.states × (at ≤ length text.now) × (width ≡ 2 ^ z.inputs + 1) × (w < 65536) }
+    requires { (at ≤ length text.now) × (width ≡ 2 ^ z.inputs + 1) × (w < 65536) }
     ensures { WordIs text.now z.inputs z.outputs z.states w at result }
 {
     if w == 0 {
@@ -83,7 +82,7 @@ fn word(text: &[u8], w: u32, at: usize, z: Sizes, width: u32) -> Got
 
 // The 252 words of the stream from word w on.
 fn fill_piece(text: &[u8], piece: &mut [u8], w: u32, at: usize, z: Sizes, width: u32) -> usize
-    requires { TextSizes z.inputs z.outputs z.states × (at ≤ length text.now) × (width ≡ 2 ^ z.inputs + 1) × (w < 65000) × (length piece.old ≡ 504) }
+    requires { (at ≤ length text.now) × (width ≡ 2 ^ z.inputs + 1) × (w < 65000) × (length piece.old ≡ 504) }
     ensures { PieceIs text.now z.inputs z.outputs z.states w at piece.new result }
 {
     let mut end = at;
@@ -106,7 +105,7 @@ fn put_block(
     z: Sizes,
     width: u32,
 ) -> usize
-    requires { TextSizes z.inputs z.outputs z.states × (at ≤ length text.now) × (width ≡ 2 ^ z.inputs + 1) × (b < 256) × (total < 256) }
+    requires { (at ≤ length text.now) × (width ≡ 2 ^ z.inputs + 1) × (b < 256) × (total < 256) }
     ensures { BlockIs text.now z.inputs z.outputs z.states b total at file.old result file.new }
 {
     let mut piece = [0u8; 504];
@@ -117,7 +116,7 @@ fn put_block(
 
 // All blocks of the file.
 fn put_blocks(text: &[u8], file: &mut [u8], total: u32, at: usize, z: Sizes, width: u32)
-    requires { TextSizes z.inputs z.outputs z.states × (at ≤ length text.now) × (width ≡ 2 ^ z.inputs + 1) × (total < 256) }
+    requires { (at ≤ length text.now) × (width ≡ 2 ^ z.inputs + 1) × (total < 256) }
     ensures { FileIs text.now z.inputs z.outputs z.states total at file.old file.new }
 {
     let mut end = at;
@@ -132,7 +131,7 @@ fn read_good(text: &[u8], file: &mut [u8], walked: Walked) -> Result<u32, Refusa
     ensures { KissReads text.now file.old (meaning result) file.new }
 {
     let z = walked.sizes;
-    let width = sizes::pow2(z.inputs) + 1;
+    let width = pow2(z.inputs) + 1;
     let total = ((2 + z.states * width) * 2 + 503) / 504;
     if file.len() < 512 * total as usize {
         return Err(Refusal {

@@ -4,11 +4,14 @@
 ghost use Rattle.std.specs.Prelude.{ℕ, ◌+◌, ◌^◌, ◌<◌};
 ghost use Rattle.kiss_law.specs.Text.{ascii};
 ghost use Rattle.kiss_law.specs.Fields.{over, fixed};
-ghost use Rattle.kiss_law.specs.Forms.{TextSizes};
 ghost use Rattle.kiss_walk.specs.Walk.{Stands, rows_form, in_form, Went, Came, Headed, HeadedSo, Checked};
 
 use kiss_fields::Taken;
-use stream::sizes::{self, Sizes};
+use stream::sizes::pow2;
+
+mod sizes;
+
+pub use sizes::Sizes;
 
 // The sizes that a text begins with, and the place of its first row. Where there are none, the place where the text stops being one.
 #[derive(Clone, Copy)]
@@ -24,7 +27,7 @@ fn heading(text: &[u8]) -> Result<Walked, usize>
     let ins = kiss_fields::size(text, 0, b'i', 1, 6)?;
     let outs = kiss_fields::size(text, ins.end, b'o', 1, 16)?;
     let k = ins.value + 1;
-    let rows = kiss_fields::size(text, outs.end, b'p', sizes::pow2(k), 256)?;
+    let rows = kiss_fields::size(text, outs.end, b'p', pow2(k), 256)?;
     let n = rows.value + 1;
     let all = kiss_fields::size(text, rows.end, b's', n, 1)?;
     let start = kiss_fields::fixed(text, all.end, b".r s0\n")?;
@@ -40,7 +43,7 @@ fn heading(text: &[u8]) -> Result<Walked, usize>
 
 // The first row of a state: its outputs, and where it ends.
 fn first_row(text: &[u8], at: usize, z: Sizes, state: u32) -> Result<Taken, usize>
-    requires { TextSizes z.inputs z.outputs z.states × (state < z.states) × Stands text.now (rows_form z.inputs z.outputs z.states state) at }
+    requires { (state < z.states) × Stands text.now (rows_form z.inputs z.outputs z.states state) at }
     ensures { Went text.now (λ (w : ℕ). in_form z.inputs z.outputs z.states state w 1) result }
 {
     let head = kiss_fields::head(text, at, z.inputs, state, 0)?;
@@ -62,7 +65,7 @@ fn other_row(
     input: u32,
     w: u32,
 ) -> Result<usize, usize>
-    requires { TextSizes z.inputs z.outputs z.states × (state < z.states) × (input < 2 ^ z.inputs) × Stands text.now (in_form z.inputs z.outputs z.states state w input) at }
+    requires { (state < z.states) × (input < 2 ^ z.inputs) × Stands text.now (in_form z.inputs z.outputs z.states state w input) at }
     ensures { Came text.now (in_form z.inputs z.outputs z.states state w (input + 1)) result }
 {
     let head = kiss_fields::head(text, at, z.inputs, state, input)?;
@@ -74,11 +77,11 @@ fn other_row(
 
 // All rows of a state: where they end.
 fn state_rows(text: &[u8], at: usize, z: Sizes, state: u32) -> Result<usize, usize>
-    requires { TextSizes z.inputs z.outputs z.states × (state < z.states) × Stands text.now (rows_form z.inputs z.outputs z.states state) at }
+    requires { (state < z.states) × Stands text.now (rows_form z.inputs z.outputs z.states state) at }
     ensures { Came text.now (rows_form z.inputs z.outputs z.states (state + 1)) result }
 {
     let first = first_row(text, at, z, state)?;
-    let most = sizes::pow2(z.inputs);
+    let most = pow2(z.inputs);
     let mut end = first.end;
     for input in 1..most {
         end = other_row(text, end, z, state, input, first.value)?;
@@ -88,7 +91,7 @@ fn state_rows(text: &[u8], at: usize, z: Sizes, state: u32) -> Result<usize, usi
 
 // The rows of all states: where they end.
 fn all_rows(text: &[u8], at: usize, z: Sizes) -> Result<usize, usize>
-    requires { TextSizes z.inputs z.outputs z.states × Stands text.now (rows_form z.inputs z.outputs z.states 0) at }
+    requires { Stands text.now (rows_form z.inputs z.outputs z.states 0) at }
     ensures { Came text.now (fixed (ascii ".e\n") over) result }
 {
     let mut end = at;

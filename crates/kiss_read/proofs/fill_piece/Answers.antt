@@ -16,10 +16,10 @@ pub loop-e-init : goal.loop-e-init
 loop-e-init c =
     let a = c.args in
     let n : a.w ≡ a.w + 0 = omega arith in
-    (c.requires.1, c.requires.4, λ t T b. (λ j h. absurd (omega arith), subst (λ (i : ℕ). Ahead t a.text.now a.z.inputs a.z.outputs a.z.states i a.at) n b))
+    (c.requires.0, c.requires.3, λ t T b. (λ j h. absurd (omega arith), subst (λ (i : ℕ). Ahead t a.text.now a.z.inputs a.z.outputs a.z.states i a.at) n b))
 
 pub word-got-requires : goal.word-got-requires
-word-got-requires c = (c.requires.0, c.loop-e.invariant.0, c.requires.2, omega (arith, c.requires.3, c.loop-e-test.true))
+word-got-requires c = (c.loop-e.invariant.0, c.requires.1, omega (arith, c.requires.2, c.loop-e-test.true))
 
 pub loop-e-preserved : goal.loop-e-preserved
 loop-e-preserved c =
