@@ -9,7 +9,10 @@ ghost use Rattle.kiss_read.specs.Meaning.{meaning};
 
 use kiss_walk::{Sizes, Walked};
 use refusals::{Cause, Refusal};
+use shape::Shape;
 use stream::sizes::pow2;
+
+mod shape;
 
 // A row: its next state, its outputs, and where it ends.
 #[derive(Drop)]
@@ -45,10 +48,11 @@ struct Got {
 }
 
 // Word w of the stream, which is 0 behind its end.
-fn word(text: &[u8], w: u32, at: usize, z: Sizes, width: u32) -> Got
-    requires { (at ≤ length text.now) × (width ≡ 2 ^ z.inputs + 1) × (w < 65536) }
-    ensures { WordIs text.now z.inputs z.outputs z.states w at result }
+fn word(text: &[u8], w: u32, at: usize, shape: Shape) -> Got
+    requires { (at ≤ length text.now) × (w < 65536) }
+    ensures { WordIs text.now shape.sizes.inputs shape.sizes.outputs shape.sizes.states w at result }
 {
+    let z = shape.sizes;
     if w == 0 {
         return Got {
             value: (z.inputs + 256 * z.outputs) as u16,
@@ -61,8 +65,8 @@ fn word(text: &[u8], w: u32, at: usize, z: Sizes, width: u32) -> Got
             at,
         };
     }
-    let state = (w - 2) / width;
-    let c = (w - 2) % width;
+    let state = (w - 2) / shape.width;
+    let c = (w - 2) % shape.width;
     if z.states <= state {
         return Got { value: 0, at };
     }
@@ -81,13 +85,13 @@ fn word(text: &[u8], w: u32, at: usize, z: Sizes, width: u32) -> Got
 }
 
 // The 252 words of the stream from word w on.
-fn fill_piece(text: &[u8], piece: &mut [u8], w: u32, at: usize, z: Sizes, width: u32) -> usize
-    requires { (at ≤ length text.now) × (width ≡ 2 ^ z.inputs + 1) × (w < 65000) × (length piece.old ≡ 504) }
-    ensures { PieceIs text.now z.inputs z.outputs z.states w at piece.new result }
+fn fill_piece(text: &[u8], piece: &mut [u8], w: u32, at: usize, shape: Shape) -> usize
+    requires { (at ≤ length text.now) × (w < 65000) × (length piece.old ≡ 504) }
+    ensures { PieceIs text.now shape.sizes.inputs shape.sizes.outputs shape.sizes.states w at piece.new result }
 {
     let mut end = at;
     for e in 0..252 {
-        let got = word(text, w + e, end, z, width);
+        let got = word(text, w + e, end, shape);
         let i = 2 * e as usize;
         piece[i..i + 2].copy_from_slice(&got.value.to_le_bytes());
         end = got.at;
@@ -96,32 +100,24 @@ fn fill_piece(text: &[u8], piece: &mut [u8], w: u32, at: usize, z: Sizes, width:
 }
 
 // Block b of the file.
-fn put_block(
-    text: &[u8],
-    file: &mut [u8],
-    b: u32,
-    total: u32,
-    at: usize,
-    z: Sizes,
-    width: u32,
-) -> usize
-    requires { (at ≤ length text.now) × (width ≡ 2 ^ z.inputs + 1) × (b < 256) × (total < 256) }
-    ensures { BlockIs text.now z.inputs z.outputs z.states b total at file.old result file.new }
+fn put_block(text: &[u8], file: &mut [u8], b: u32, total: u32, at: usize, shape: Shape) -> usize
+    requires { (at ≤ length text.now) × (b < 256) × (total < 256) }
+    ensures { BlockIs text.now shape.sizes.inputs shape.sizes.outputs shape.sizes.states b total at file.old result file.new }
 {
     let mut piece = [0u8; 504];
-    let end = fill_piece(text, &mut piece, 252 * b, at, z, width);
+    let end = fill_piece(text, &mut piece, 252 * b, at, shape);
     writer::write_block(file, b as u16, total as u16, &piece);
     end
 }
 
 // All blocks of the file.
-fn put_blocks(text: &[u8], file: &mut [u8], total: u32, at: usize, z: Sizes, width: u32)
-    requires { (at ≤ length text.now) × (width ≡ 2 ^ z.inputs + 1) × (total < 256) }
-    ensures { FileIs text.now z.inputs z.outputs z.states total at file.old file.new }
+fn put_blocks(text: &[u8], file: &mut [u8], total: u32, at: usize, shape: Shape)
+    requires { (at ≤ length text.now) × (total < 256) }
+    ensures { FileIs text.now shape.sizes.inputs shape.sizes.outputs shape.sizes.states total at file.old file.new }
 {
     let mut end = at;
     for b in 0..total {
-        end = put_block(text, file, b, total, end, z, width);
+        end = put_block(text, file, b, total, end, shape);
     }
 }
 
@@ -130,16 +126,16 @@ fn read_good(text: &[u8], file: &mut [u8], walked: Walked) -> Result<u32, Refusa
     requires { GoodText text.now walked }
     ensures { KissReads text.now file.old (meaning result) file.new }
 {
-    let z = walked.sizes;
-    let width = pow2(z.inputs) + 1;
-    let total = ((2 + z.states * width) * 2 + 503) / 504;
+    let sizes = walked.sizes;
+    let width = pow2(sizes.inputs) + 1;
+    let total = ((2 + sizes.states * width) * 2 + 503) / 504;
     if file.len() < 512 * total as usize {
         return Err(Refusal {
             cause: Cause::Buffer,
             place: 0,
         });
     }
-    put_blocks(text, file, total, walked.at, z, width);
+    put_blocks(text, file, total, walked.at, Shape { sizes, width });
     Ok(total)
 }
 

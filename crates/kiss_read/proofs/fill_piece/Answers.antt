@@ -16,10 +16,10 @@ pub loop-e-init : goal.loop-e-init
 loop-e-init c =
     let a = c.args in
     let n : a.w ≡ a.w + 0 = omega arith in
-    (c.requires.0, c.requires.3, λ t T b. (λ j h. absurd (omega arith), subst (λ (i : ℕ). Ahead t a.text.now a.z.inputs a.z.outputs a.z.states i a.at) n b))
+    (c.requires.0, c.requires.2, λ t T b. (λ j h. absurd (omega arith), subst (λ (i : ℕ). Ahead t a.text.now a.shape.sizes.inputs a.shape.sizes.outputs a.shape.sizes.states i a.at) n b))
 
 pub word-got-requires : goal.word-got-requires
-word-got-requires c = (c.loop-e.invariant.0, c.requires.1, omega (arith, c.requires.2, c.loop-e-test.true))
+word-got-requires c = (c.loop-e.invariant.0, omega (arith, c.requires.1, c.loop-e-test.true))
 
 pub loop-e-preserved : goal.loop-e-preserved
 loop-e-preserved c =
@@ -37,7 +37,7 @@ loop-e-preserved c =
             piece_put (stream_of t) l.piece s a.w l.e v l.invariant.1 c.loop-e-test.true e u.0
                 (stream_low t T.writable.fits (a.w + l.e) ∙ ap (λ (i : ℕ). i % 256) (sym g.0))
                 (stream_high t T.writable.fits (a.w + l.e) ∙ ap (λ (i : ℕ). i / 256 % 256) (sym g.0)),
-            subst (λ (i : ℕ). Ahead t a.text.now a.z.inputs a.z.outputs a.z.states i c.word-got.result.at) (add_assoc a.w l.e 1) g.1,
+            subst (λ (i : ℕ). Ahead t a.text.now a.shape.sizes.inputs a.shape.sizes.outputs a.shape.sizes.states i c.word-got.result.at) (add_assoc a.w l.e 1) g.1,
           ),
     )
 
@@ -51,5 +51,5 @@ returns c =
       long = l.invariant.1;
       is = λ t T b.
           let u = l.invariant.2 t T b in
-          (λ j h. u.0 j (omega arith), subst (λ (i : ℕ). Ahead t a.text.now a.z.inputs a.z.outputs a.z.states (a.w + i) l.end) e u.1);
+          (λ j h. u.0 j (omega arith), subst (λ (i : ℕ). Ahead t a.text.now a.shape.sizes.inputs a.shape.sizes.outputs a.shape.sizes.states (a.w + i) l.end) e u.1);
     }

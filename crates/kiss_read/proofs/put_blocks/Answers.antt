@@ -12,7 +12,7 @@ pub loop-b-init : goal.loop-b-init
 loop-b-init c = (c.requires.0, refl, λ t T a. (written_none (stream_of t) c.args.file.now c.args.total, a))
 
 pub put_block-end-requires : goal.put_block-end-requires
-put_block-end-requires c = (c.loop-b.invariant.0, c.requires.1, omega (arith, c.loop-b-test.true, c.requires.2), c.requires.2)
+put_block-end-requires c = (c.loop-b.invariant.0, omega (arith, c.loop-b-test.true, c.requires.1), c.requires.1)
 
 pub loop-b-preserved : goal.loop-b-preserved
 loop-b-preserved c =

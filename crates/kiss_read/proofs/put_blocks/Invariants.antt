@@ -10,4 +10,4 @@ use Rattle.kiss_read.specs.Cursor.{TextOf, Ahead}
 use Rattle.kiss_read.proofs.put_blocks.Given as goal
 
 abbrev pub invariant-loop-b : goal.invariant-loop-b
-invariant-loop-b l = (l.end ≤ length l.text) × (length l.file ≡ length l.initial.file) × ((t : Table) → TextOf t l.text l.z.inputs l.z.outputs l.z.states → Ahead t l.text l.z.inputs l.z.outputs l.z.states 0 l.at → (l.file ≡ written l.b l.total (stream_of t) l.initial.file) × Ahead t l.text l.z.inputs l.z.outputs l.z.states (252 * l.b) l.end)
+invariant-loop-b l = (l.end ≤ length l.text) × (length l.file ≡ length l.initial.file) × ((t : Table) → TextOf t l.text l.shape.sizes.inputs l.shape.sizes.outputs l.shape.sizes.states → Ahead t l.text l.shape.sizes.inputs l.shape.sizes.outputs l.shape.sizes.states 0 l.at → (l.file ≡ written l.b l.total (stream_of t) l.initial.file) × Ahead t l.text l.shape.sizes.inputs l.shape.sizes.outputs l.shape.sizes.states (252 * l.b) l.end)

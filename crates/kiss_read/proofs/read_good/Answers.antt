@@ -25,7 +25,7 @@ pub returns-then-file-total : goal.returns-then-file-total
 returns-then-file-total c = too_short c.args.text.now c.args.file.now c.args.walked (c.pow2-width.result + 1) _ c.requires (ap (λ (i : ℕ). i + 1) c.pow2-width.ensures.0) refl c.if-file-total.true
 
 pub put_blocks-requires : goal.put_blocks-requires
-put_blocks-requires c = (c.requires.inside, ap (λ (i : ℕ). i + 1) c.pow2-width.ensures.0, omega (arith, words-few c.requires.sizes c.pow2-width.ensures.0))
+put_blocks-requires c = (c.requires.inside, omega (arith, words-few c.requires.sizes c.pow2-width.ensures.0))
 
 pub returns : goal.returns
 returns c = all_read c.args.text.now c.args.file.now c.args.walked (c.pow2-width.result + 1) _ c.requires (ap (λ (i : ℕ). i + 1) c.pow2-width.ensures.0) refl _ (omega arith) c.put_blocks.ensures
