@@ -7,11 +7,14 @@ ghost use Rattle.file_law.specs.Reading.{stream_in, Within, open_answer};
 ghost use Rattle.kiss_law.specs.Text.{decimal, heading};
 ghost use Rattle.kiss_law.specs.Kiss.{KissWrites};
 ghost use Rattle.kiss_put.specs.Put.{Put};
-ghost use Rattle.kiss_write.specs.Held.{held_state, held_rows, held_text, Holds};
+ghost use Rattle.kiss_write.specs.Held.{held_state, held_rows, held_text};
 ghost use Rattle.kiss_write.specs.Meaning.{meaning};
 
 use refusals::{Cause, Refusal};
+use sound::Sound;
 use stream::sizes::{self, Sizes};
+
+mod sound;
 
 // How many digits a number has.
 fn digits(n: u32) -> u32
@@ -28,27 +31,28 @@ fn digits(n: u32) -> u32
 }
 
 // How long the rows of a state are.
-fn state_length(file: &[u8], z: Sizes, state: u32) -> u32
-    requires { Holds file.now z.inputs z.outputs z.states × (state < z.states) }
-    ensures { result ≡ length (held_state (stream_in file.now) z.inputs z.outputs state 0) }
+fn state_length(sound: Sound, state: u32) -> u32
+    requires { state < sound.sizes.states }
+    ensures { result ≡ length (held_state (stream_in sound.entry.file.now) sound.entry.sizes.inputs sound.entry.sizes.outputs state 0) }
 {
+    let z = sound.sizes;
     let fixed = z.inputs + z.outputs + 6 + digits(state);
     let end = sizes::pow2(z.inputs);
     let mut sum: u32 = 0;
     for input in 0..end {
-        sum += fixed + digits(stream::next_at(file, z.inputs, state, input));
+        sum += fixed + digits(stream::next_at(sound.file, z.inputs, state, input));
     }
     sum
 }
 
 // How long all rows are.
-fn rows_length(file: &[u8], z: Sizes) -> u32
-    requires { Holds file.now z.inputs z.outputs z.states }
-    ensures { (result ≡ length (held_rows (stream_in file.now) z.inputs z.outputs z.states 0)) × (result ≤ 700000) }
+fn rows_length(sound: Sound) -> u32
+    ensures { (result ≡ length (held_rows (stream_in sound.entry.file.now) sound.entry.sizes.inputs sound.entry.sizes.outputs sound.entry.sizes.states 0)) × (result ≤ 700000) }
 {
+    let z = sound.sizes;
     let mut sum: u32 = 0;
     for state in 0..z.states {
-        sum += state_length(file, z, state);
+        sum += state_length(sound, state);
     }
     sum
 }
@@ -63,15 +67,16 @@ fn heading_length(z: Sizes) -> u32
 }
 
 // The rows of a state.
-fn put_state(file: &[u8], text: &mut [u8], at: usize, z: Sizes, state: u32) -> usize
-    requires { Holds file.now z.inputs z.outputs z.states × (state < z.states) × (at + length (held_state (stream_in file.now) z.inputs z.outputs state 0) ≤ length text.old) }
-    ensures { Put text.old at (held_state (stream_in file.now) z.inputs z.outputs state 0) result text.new }
+fn put_state(sound: Sound, text: &mut [u8], at: usize, state: u32) -> usize
+    requires { (state < sound.sizes.states) × (at + length (held_state (stream_in sound.file.now) sound.sizes.inputs sound.sizes.outputs state 0) ≤ length text.old) }
+    ensures { Put text.old at (held_state (stream_in sound.entry.file.now) sound.entry.sizes.inputs sound.entry.sizes.outputs state 0) result text.new }
 {
-    let outs = stream::outputs_at(file, z.inputs, state);
+    let z = sound.sizes;
+    let outs = stream::outputs_at(sound.file, z.inputs, state);
     let most = sizes::pow2(z.inputs);
     let mut end = at;
     for input in 0..most {
-        let next = stream::next_at(file, z.inputs, state, input);
+        let next = stream::next_at(sound.file, z.inputs, state, input);
         let head = kiss_put::row_head(text, end, z.inputs, state, input);
         end = kiss_put::row_tail(text, head, z.outputs, outs, next);
     }
@@ -79,13 +84,14 @@ fn put_state(file: &[u8], text: &mut [u8], at: usize, z: Sizes, state: u32) -> u
 }
 
 // All rows.
-fn put_rows(file: &[u8], text: &mut [u8], at: usize, z: Sizes) -> usize
-    requires { Holds file.now z.inputs z.outputs z.states × (at + length (held_rows (stream_in file.now) z.inputs z.outputs z.states 0) ≤ length text.old) }
-    ensures { Put text.old at (held_rows (stream_in file.now) z.inputs z.outputs z.states 0) result text.new }
+fn put_rows(sound: Sound, text: &mut [u8], at: usize) -> usize
+    requires { at + length (held_rows (stream_in sound.file.now) sound.sizes.inputs sound.sizes.outputs sound.sizes.states 0) ≤ length text.old }
+    ensures { Put text.old at (held_rows (stream_in sound.entry.file.now) sound.entry.sizes.inputs sound.entry.sizes.outputs sound.entry.sizes.states 0) result text.new }
 {
+    let z = sound.sizes;
     let mut end = at;
     for state in 0..z.states {
-        end = put_state(file, text, end, z, state);
+        end = put_state(sound, text, end, state);
     }
     end
 }
@@ -104,12 +110,12 @@ fn put_heading(text: &mut [u8], z: Sizes) -> usize
 }
 
 // The whole text.
-fn put_text(file: &[u8], text: &mut [u8], z: Sizes)
-    requires { Holds file.now z.inputs z.outputs z.states × (length (held_text (stream_in file.now) z.inputs z.outputs z.states) ≤ length text.old) }
-    ensures { Put text.old 0 (held_text (stream_in file.now) z.inputs z.outputs z.states) (length (held_text (stream_in file.now) z.inputs z.outputs z.states)) text.new }
+fn put_text(sound: Sound, text: &mut [u8])
+    requires { length (held_text (stream_in sound.file.now) sound.sizes.inputs sound.sizes.outputs sound.sizes.states) ≤ length text.old }
+    ensures { Put text.old 0 (held_text (stream_in sound.entry.file.now) sound.entry.sizes.inputs sound.entry.sizes.outputs sound.entry.sizes.states) (length (held_text (stream_in sound.entry.file.now) sound.entry.sizes.inputs sound.entry.sizes.outputs sound.entry.sizes.states)) text.new }
 {
-    let rows = put_heading(text, z);
-    let end = put_rows(file, text, rows, z);
+    let rows = put_heading(text, sound.sizes);
+    let end = put_rows(sound, text, rows);
     kiss_put::bytes(text, end, b".e\n");
 }
 
@@ -124,14 +130,15 @@ fn write_sound(file: &[u8], text: &mut [u8], z: Sizes) -> Result<u32, Refusal<u3
             place: 0,
         });
     }
-    let length = heading_length(z) + rows_length(file, z) + 3;
+    let sound = Sound { file, sizes: z };
+    let length = heading_length(z) + rows_length(sound) + 3;
     if text.len() < length as usize {
         return Err(Refusal {
             cause: Cause::Buffer,
             place: 0,
         });
     }
-    put_text(file, text, z);
+    put_text(sound, text);
     Ok(length)
 }
 

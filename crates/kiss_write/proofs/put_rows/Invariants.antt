@@ -6,4 +6,4 @@ use Rattle.kiss_write.specs.Held.{held_rows}
 use Rattle.kiss_write.proofs.put_rows.Given as goal
 
 abbrev pub invariant-loop-state : goal.invariant-loop-state
-invariant-loop-state l = Under l.initial.text l.at (held_rows (stream_in l.file) l.z.inputs l.z.outputs l.z.states 0) (held_rows (stream_in l.file) l.z.inputs l.z.outputs l.z.states l.state) l.end l.text
+invariant-loop-state l = Under l.initial.text l.at (held_rows (stream_in l.sound.file.now) l.sound.sizes.inputs l.sound.sizes.outputs l.sound.sizes.states 0) (held_rows (stream_in l.sound.file.now) l.sound.sizes.inputs l.sound.sizes.outputs l.sound.sizes.states l.state) l.end l.text

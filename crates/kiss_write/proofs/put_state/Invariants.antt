@@ -6,4 +6,4 @@ use Rattle.kiss_write.specs.Held.{held_state}
 use Rattle.kiss_write.proofs.put_state.Given as goal
 
 abbrev pub invariant-loop-input : goal.invariant-loop-input
-invariant-loop-input l = Under l.initial.text l.at (held_state (stream_in l.file) l.z.inputs l.z.outputs l.state 0) (held_state (stream_in l.file) l.z.inputs l.z.outputs l.state l.input) l.end l.text
+invariant-loop-input l = Under l.initial.text l.at (held_state (stream_in l.sound.file.now) l.sound.sizes.inputs l.sound.sizes.outputs l.state 0) (held_state (stream_in l.sound.file.now) l.sound.sizes.inputs l.sound.sizes.outputs l.state l.input) l.end l.text

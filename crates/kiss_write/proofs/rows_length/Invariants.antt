@@ -8,4 +8,4 @@ use Rattle.kiss_write.specs.Held.{held_rows}
 use Rattle.kiss_write.proofs.rows_length.Given as goal
 
 abbrev pub invariant-loop-state : goal.invariant-loop-state
-invariant-loop-state l = l.sum + length (held_rows (stream_in l.file) l.z.inputs l.z.outputs l.z.states l.state) ≡ length (held_rows (stream_in l.file) l.z.inputs l.z.outputs l.z.states 0)
+invariant-loop-state l = l.sum + length (held_rows (stream_in l.sound.file.now) l.sound.sizes.inputs l.sound.sizes.outputs l.sound.sizes.states l.state) ≡ length (held_rows (stream_in l.sound.file.now) l.sound.sizes.inputs l.sound.sizes.outputs l.sound.sizes.states 0)

@@ -8,4 +8,4 @@ use Rattle.kiss_write.specs.Held.{held_state}
 use Rattle.kiss_write.proofs.state_length.Given as goal
 
 abbrev pub invariant-loop-input : goal.invariant-loop-input
-invariant-loop-input l = l.sum + length (held_state (stream_in l.file) l.z.inputs l.z.outputs l.state l.input) ≡ length (held_state (stream_in l.file) l.z.inputs l.z.outputs l.state 0)
+invariant-loop-input l = l.sum + length (held_state (stream_in l.sound.file.now) l.sound.sizes.inputs l.sound.sizes.outputs l.state l.input) ≡ length (held_state (stream_in l.sound.file.now) l.sound.sizes.inputs l.sound.sizes.outputs l.state 0)

@@ -14,14 +14,14 @@ returns-then-z-eq0 c = elim c.then-z-eq0.either [ inl a ↦ kiss.KissWrites.fift
 pub heading_length-requires : goal.heading_length-requires
 heading_length-requires c = (holds c.args.file.now c.args.z.inputs c.args.z.outputs c.args.z.states c.requires).size
 
-pub rows_length-requires : goal.rows_length-requires
-rows_length-requires c = holds c.args.file.now c.args.z.inputs c.args.z.outputs c.args.z.states c.requires
+pub invariant_of-sound : goal.invariant_of-sound
+invariant_of-sound c = record { holds = holds c.args.file.now c.args.z.inputs c.args.z.outputs c.args.z.states c.requires }
 
 pub returns-then-text-length : goal.returns-then-text-length
 returns-then-text-length c = short c.args.file.now c.args.text.now c.args.z.inputs c.args.z.outputs c.args.z.states c.requires (omega arith) (omega arith) (omega (arith, text-length (stream_in c.args.file.now) c.args.z.inputs c.args.z.outputs c.args.z.states, c.heading_length.ensures.0, c.rows_length.ensures.0))
 
 pub put_text-requires : goal.put_text-requires
-put_text-requires c = (holds c.args.file.now c.args.z.inputs c.args.z.outputs c.args.z.states c.requires, omega (arith, text-length (stream_in c.args.file.now) c.args.z.inputs c.args.z.outputs c.args.z.states, c.heading_length.ensures.0, c.rows_length.ensures.0))
+put_text-requires c = omega (arith, text-length (stream_in c.args.file.now) c.args.z.inputs c.args.z.outputs c.args.z.states, c.heading_length.ensures.0, c.rows_length.ensures.0)
 
 pub returns : goal.returns
 returns c = made c.args.file.now c.args.text.now c.args.z.inputs c.args.z.outputs c.args.z.states c.requires _ (omega arith) (omega arith) (omega (arith, text-length (stream_in c.args.file.now) c.args.z.inputs c.args.z.outputs c.args.z.states, c.heading_length.ensures.0, c.rows_length.ensures.0)) (omega (arith, text-length (stream_in c.args.file.now) c.args.z.inputs c.args.z.outputs c.args.z.states, c.heading_length.ensures.0, c.rows_length.ensures.0)) c.put_text.ensures
