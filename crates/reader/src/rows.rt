@@ -13,14 +13,7 @@ fn all_clear(file: &[u8], k: u32, o: u32, n: u32) -> bool
     ensures { result ≡ every (clear_at (stream_in file.now) k o) n 0 }
 {
     let most = sizes::pow2(o);
-    let mut state: u32 = 0;
-    while state < n {
-        if most <= stream::outputs_at(file, k, state) {
-            return false;
-        }
-        state += 1;
-    }
-    true
+    (0..n).all(|state| stream::outputs_at(file, k, state) < most)
 }
 
 // The stream of `total` blocks is zero from byte `from` on.
@@ -28,15 +21,7 @@ fn all_zero(file: &[u8], from: u32, total: u32) -> bool
     requires { (total ≤ most_blocks) × (512 * total ≤ length file.now) }
     ensures { result ≡ every (zero_at (stream_in file.now)) (504 * total - from) from }
 {
-    let end = 504 * total;
-    let mut j = from;
-    while j < end {
-        if bytes::byte(file, stream::place_of(j)) != 0 {
-            return false;
-        }
-        j += 1;
-    }
-    true
+    (from..504 * total).all(|j| bytes::byte(file, stream::place_of(j)) == 0)
 }
 
 // Each next state of a state is in the table.
@@ -44,15 +29,7 @@ fn nexts_good(file: &[u8], k: u32, n: u32, state: u32) -> bool
     requires { Room file.now k n × (state < n) }
     ensures { result ≡ nexts_good (stream_in file.now) k n state }
 {
-    let end = sizes::pow2(k);
-    let mut input: u32 = 0;
-    while input < end {
-        if n <= stream::next_at(file, k, state, input) {
-            return false;
-        }
-        input += 1;
-    }
-    true
+    (0..sizes::pow2(k)).all(|input| stream::next_at(file, k, state, input) < n)
 }
 
 // .. and so for every state.
@@ -60,14 +37,7 @@ fn all_nexts_good(file: &[u8], k: u32, n: u32) -> bool
     requires { Room file.now k n }
     ensures { result ≡ every (nexts_good (stream_in file.now) k n) n 0 }
 {
-    let mut state: u32 = 0;
-    while state < n {
-        if !nexts_good(file, k, n, state) {
-            return false;
-        }
-        state += 1;
-    }
-    true
+    (0..n).all(|state| nexts_good(file, k, n, state))
 }
 
 // No spare output bit, filling of zeros, next states in the table.
@@ -75,11 +45,7 @@ pub fn rows_good(file: &[u8], k: u32, o: u32, n: u32) -> bool
     requires { Room file.now k n × (o ≤ most_outputs) }
     ensures { result ≡ rows_good (stream_in file.now) (blocks_for k n) k o n }
 {
-    if !all_clear(file, k, o, n) {
-        return false;
-    }
-    if !all_zero(file, sizes::row_at(k, n), sizes::blocks_for(k, n)) {
-        return false;
-    }
-    all_nexts_good(file, k, n)
+    all_clear(file, k, o, n)
+        && all_zero(file, sizes::row_at(k, n), sizes::blocks_for(k, n))
+        && all_nexts_good(file, k, n)
 }

@@ -2,40 +2,35 @@
 -- Assumes nothing.
 use mathlib.Core.Path.{◌≡◌, refl, sym, ap₂, ◌∙◌}
 use Prim.Native.Nat.{ℕ, ◌-◌, ◌*◌}
-use mathlib.Core.Bool.{true}
+use mathlib.Core.Bool.{Bool, true≢false}
+use mathlib.Core.List.{List}
 use borrow.Author.Tests.{eq-eqb}
 use Rattle.file_law.specs.Answer.{every}
-use Rattle.file_law.specs.Reading.{stream_in, stream_length, blocks_for, clear_at, zero_at, rows_good}
+use Rattle.file_law.specs.Reading.{stream_in, stream_length, blocks_for, zero_at, rows_good}
 use Rattle.reader.proofs.rows.rows_good.Goals as goal
-use Rattle.reader.proofs.rows.rows_good.Goals.{After-all_zero, Else-not-all_clear}
-
--- no spare output bit was found
-clear : (c : Else-not-all_clear) → every (clear_at (stream_in c.args.file.now) c.args.k c.args.o) c.args.n 0 ≡ true
-clear c = sym c.all_clear.ensures ∙ c.if-not-all_clear.false
+use Rattle.reader.proofs.rows.rows_good.Goals.{then-all_clear, else-all_clear}
 
 -- the filling that was tested is that of the sizes
-filling : (c : After-all_zero) →
-    let a = c.args in
-    every (zero_at (stream_in a.file.now)) (504 * blocks_for a.k a.n - stream_length a.k a.n) (stream_length a.k a.n) ≡ c.all_zero.result
-filling c =
-    let p = zero_at (stream_in c.args.file.now) in
-    sym (c.all_zero.ensures ∙ ap₂ (λ (t j : ℕ). every p (504 * t - j) j) c.blocks_for.ensures.0 c.row_at.ensures.0)
+filling : (k n : ℕ) (f : List ℕ) {from total : ℕ} {r : Bool} → from ≡ stream_length k n → total ≡ blocks_for k n → r ≡ every (zero_at (stream_in f)) (504 * total - from) from
+    → every (zero_at (stream_in f)) (504 * blocks_for k n - stream_length k n) (stream_length k n) ≡ r
+filling k n f e d h = sym (h ∙ ap₂ (λ (t j : ℕ). every (zero_at (stream_in f)) (504 * t - j) j) d e)
 
-pub returns-then-not-all_clear : goal.returns-then-not-all_clear
+pub returns-then-all_zero : goal.returns-then-all_zero
 unfolding rows_good
-returns-then-not-all_clear c =
-    let a = c.args in
-    simp (eq-eqb (blocks_for a.k a.n) _ refl, sym c.all_clear.ensures ∙ c.if-not-all_clear.true)
-
-pub returns-then-not-all_zero : goal.returns-then-not-all_zero
-unfolding rows_good
-returns-then-not-all_zero c =
-    let a = c.args in
-    simp (eq-eqb (blocks_for a.k a.n) _ refl, clear (goal.at.returns-then-not-all_zero c).Else-not-all_clear, filling (goal.at.returns-then-not-all_zero c).After-all_zero ∙ c.if-not-all_zero.true)
-
-pub returns : goal.returns
-unfolding rows_good
-returns c =
+returns-then-all_zero c =
     let a = c.args in
     c.all_nexts_good.ensures
-    ∙ simp (eq-eqb (blocks_for a.k a.n) _ refl, clear (goal.at.returns c).Else-not-all_clear, filling (goal.at.returns c).After-all_zero ∙ c.if-not-all_zero.false)
+    ∙ elim c.if-all_clear.branch [
+      | then-all_clear w ↦ simp (eq-eqb (blocks_for a.k a.n) _ refl, sym c.all_clear.ensures ∙ w.if-all_clear.true, filling a.k a.n a.file.now w.row_at.ensures.0 w.blocks_for.ensures.0 w.all_zero.ensures ∙ sym w.value-is ∙ c.if-all_zero.true)
+      | else-all_clear w ↦ absurd (true≢false (sym c.if-all_zero.true ∙ w.value-is ∙ w.if-all_clear.false))
+    ]
+
+pub returns-else-all_zero : goal.returns-else-all_zero
+unfolding rows_good
+returns-else-all_zero c =
+    let a = c.args in
+    c.if-all_zero.false
+    ∙ elim c.if-all_clear.branch [
+      | then-all_clear w ↦ simp (eq-eqb (blocks_for a.k a.n) _ refl, sym c.all_clear.ensures ∙ w.if-all_clear.true, filling a.k a.n a.file.now w.row_at.ensures.0 w.blocks_for.ensures.0 w.all_zero.ensures ∙ sym w.value-is ∙ c.if-all_zero.false)
+      | else-all_clear w ↦ simp (eq-eqb (blocks_for a.k a.n) _ refl, sym c.all_clear.ensures ∙ w.if-all_clear.false)
+    ]
