@@ -20,7 +20,7 @@ const MOST_BYTES: usize = 8192;
 // "levels 32"
 const MOST_LEVELS: u8 = 32;
 
-// The word to be read next: its kind's number (0 where the words end), how many words stand before it, its place, and the place behind it.
+// The word to be read next: its kind's number in the rows (0 where the words end, as `code_of` and the rows have it), how many words stand before it, its place, and the place behind it.
 #[derive(Clone, Copy)]
 struct Here {
     kind: u8,

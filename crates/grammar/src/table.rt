@@ -18,7 +18,7 @@ pub fn symbol_at(rows: &Rows, p: usize) -> u8
     rows.get(p).copied().unwrap_or(0)
 }
 
-// Where the row of part b begins that a word of kind t calls for; 0 where there is none.
+// Where the row of part b begins that a word of kind t calls for; 0 where there is none, as the table and `start_of` have it.
 pub fn start_at(starts: &Starts, b: u8, t: u8) -> u16
     requires { (first_part ≤ b) × (length starts.now ≤ cell_count) }
     ensures { result ≡ start_of starts.now (b - first_part) t }
