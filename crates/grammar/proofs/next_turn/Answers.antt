@@ -23,9 +23,6 @@ returns-in-127 c = rw (← c.symbol_at-b.ensures) (inr (c.in-127.is, refl))
 pub returns-then-q-eq0 : goal.returns-then-q-eq0
 returns-then-q-eq0 c = rw (← c.symbol_at-b.ensures) (inr (inr (omega arith, sym c.if-q-eq0.true ∙ c.from-q.ensures ∙ c.start_at.ensures)))
 
-pub overflow_add-p : goal.overflow_add-p
-overflow_add-p c = omega (arith, c.requires.low (λ z. omega (arith, c.symbol_at-b.ensures)))
-
 pub returns-then-symbol_at-eq0 : goal.returns-then-symbol_at-eq0
 returns-then-symbol_at-eq0 c = rw (← c.symbol_at-b.ensures) (record { part = omega arith; found = c.if-q-eq0.false; start = c.from-q.ensures ∙ c.start_at.ensures }, sym c.symbol_at.ensures ∙ c.if-symbol_at-eq0.true)
 

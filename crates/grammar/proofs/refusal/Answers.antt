@@ -14,9 +14,6 @@ pub returns-in-Some : goal.returns-in-Some
 returns-in-Some c =
     inr (c.requires.short, is_four c.args.text.now (c.stop_from.ensures ∙ c.requires.rest) c.in-Some.is)
 
-pub overflow_cast-result-in-None : goal.overflow_cast-result-in-None
-overflow_cast-result-in-None c = omega (arith, c.requires.inside, c.requires.short)
-
 pub returns-in-None : goal.returns-in-None
 returns-in-None c =
     inr (c.requires.short, c.requires.five (sym c.requires.rest ∙ sym c.stop_from.ensures ∙ c.in-None.is))

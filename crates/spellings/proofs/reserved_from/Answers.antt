@@ -10,20 +10,9 @@ pub loop-k-init : goal.loop-k-init
 loop-k-init c =
     word_start c.args.s.now c.args.at c.args.e (omega arith) c.requires.2 c.requires.4
 
-pub is_reserved-requires : goal.is_reserved-requires
-is_reserved-requires c =
-    (c.requires.1, omega arith, c.requires.3, c.loop-k.invariant.above, c.loop-k-test.true)
-
 pub returns-then-is_reserved : goal.returns-then-is_reserved
 returns-then-is_reserved c =
     word_here c.args.s.now c.args.at c.args.e (omega arith) c.requires.2 c.loop-k.invariant (omega arith) c.is_reserved.ensures c.if-is_reserved.true
-
-pub overflow_sub-k : goal.overflow_sub-k
-overflow_sub-k c = c.loop-k.invariant.above
-
-pub bounds-next-k : goal.bounds-next-k
-bounds-next-k c =
-    omega (arith, c.loop-k.invariant.above, c.requires.0.long)
 
 pub loop-k-smaller : goal.loop-k-smaller
 loop-k-smaller c =

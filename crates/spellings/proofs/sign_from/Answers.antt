@@ -10,17 +10,9 @@ use Rattle.spellings.proofs.sign_from.Goals as goal
 pub loop-k-init : goal.loop-k-init
 loop-k-init c = sign_start c.args.s.now c.args.at c.requires.2 c.requires.3
 
-pub sign_fits-requires : goal.sign_fits-requires
-sign_fits-requires c =
-    (c.requires.1, c.loop-k-test.true, c.requires.2, c.loop-k.invariant.opens (omega arith))
-
 pub returns-then-sign_fits : goal.returns-then-sign_fits
 returns-then-sign_fits c =
     sign_here c.args.s.now c.args.at c.requires.2 c.loop-k.invariant (omega arith) c.sign_fits.ensures c.if-sign_fits.true
-
-pub bounds-next-k : goal.bounds-next-k
-bounds-next-k c =
-    omega (arith, c.loop-k.invariant.above, c.requires.0.long)
 
 pub loop-k-smaller : goal.loop-k-smaller
 loop-k-smaller c =

@@ -1,6 +1,6 @@
 -- `tables::fill` meets its contract: what is left to put in comes to the whole.
 -- Assumes nothing.
-use mathlib.Core.Path.{◌≡◌, refl, ◌∙◌}
+use mathlib.Core.Path.{◌≡◌, ◌∙◌}
 use mathlib.Core.List.{[], ◌∷◌, ◌++◌}
 use Prim.Native.Nat.{◌+◌}
 use native.Mathlib.Omega.{arith}
@@ -9,9 +9,6 @@ use Rattle.std.proofs.Common.{rules}
 use Rattle.std.proofs.lemmas.Slice.Zip.{zip_turn, zip_end}
 use Rattle.tables.proofs.Laid.{store_on, store_over}
 use Rattle.tables.proofs.fill.Goals as goal
-
-pub loop-at-init : goal.loop-at-init
-loop-at-init c = refl
 
 pub loop-at-preserved : goal.loop-at-preserved
 loop-at-preserved c =

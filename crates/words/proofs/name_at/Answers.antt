@@ -13,10 +13,6 @@ pub returns-in-Some : goal.returns-in-Some
 returns-in-Some c =
     reserved-word c.args.s.now c.args.at c.requires.0 c.requires.1 _ c.name_end-end.ensures c.in-Some.ensures
 
-pub overflow_sub-end : goal.overflow_sub-end
-overflow_sub-end c =
-    omega (arith, name-some c.args.s.now c.args.at c.requires.0 c.requires.1 _ c.name_end-end.ensures)
-
 pub returns-then-end-at-le-LONGEST_NAME : goal.returns-then-end-at-le-LONGEST_NAME
 returns-then-end-at-le-LONGEST_NAME c =
     name-short c.args.s.now c.args.at c.requires.0 c.requires.1 _ c.name_end-end.ensures c.in_default.ensures (omega arith)

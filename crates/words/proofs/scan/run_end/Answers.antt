@@ -19,9 +19,6 @@ past t s from i h k l e = go (dec_le from (length s))
     go (yes m) = let q : max from (length s) ≡ i = omega (arith, l m) in q ∙ run_over t s i _ h e
     go (no m) = let q : max from (length s) ≡ from = omega arith in q ∙ run_over t s from _ (omega arith) refl
 
-pub loop-i-init : goal.loop-i-init
-loop-i-init g c = λ t u. refl
-
 pub returns-then-not-goes_on : goal.returns-then-not-goes_on
 returns-then-not-goes_on g c = λ t u. run-stops t c.args.s.now c.loop-i.i _ (omega arith) (sym (u.told c.loop-i.i _ (omega arith) c.if-not-goes_on.ensures)) (c.loop-i.invariant t u)
 
