@@ -1,6 +1,6 @@
 -- `moves::look_in` meets its contract: refuses a state that is not in the table, and else stands in it.
 -- Assumes nothing.
-use mathlib.Core.Path.{sym, ap, ◌∙◌}
+use mathlib.Core.Path.{sym, ◌∙◌}
 use Rattle.file_law.specs.Reading.{stream_in}
 use Rattle.file_law.proofs.Steps.{look-beyond, look_on}
 use Rattle.moves.proofs.look_in.Goals as goal

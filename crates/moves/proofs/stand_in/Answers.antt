@@ -2,17 +2,10 @@
 -- Assumes nothing.
 use mathlib.Core.Path.{sym, ap, ◌∙◌}
 use Prim.Native.Nat.{ℕ, ◌^◌, ◌≤◌, ◌<◌}
-use native.Mathlib.Omega.{arith}
 use Rattle.file_law.specs.Answer.{gives}
 use Rattle.file_law.specs.Reading.{stream_in, outputs_at}
-use Rattle.file_law.proofs.Tests.{outputs-inside}
 use Rattle.file_law.proofs.Steps.{stand_spare, stand_clear}
 use Rattle.moves.proofs.stand_in.Goals as goal
-
-pub outputs_at-outputs-requires : goal.outputs_at-outputs-requires
-outputs_at-outputs-requires c = let a = c.args in
-    let z = c.requires.0 in
-    (z.size.inputs, omega arith, rw z.exact (outputs-inside a.size.inputs a.state a.size.states c.requires.1))
 
 pub returns-then-pow2-outputs : goal.returns-then-pow2-outputs
 returns-then-pow2-outputs c = let a = c.args in
