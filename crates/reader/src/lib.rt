@@ -14,6 +14,8 @@ use stream::sizes::{self, Sizes};
 mod blocks;
 mod rows;
 
+use rows::Rows;
+
 // A refusal of the whole file.
 fn whole(cause: Cause) -> Refusal<u32>
     ensures { result ≡ record { cause = cause; place = 0 } }
@@ -60,7 +62,7 @@ fn content(file: &[u8]) -> Result<Sizes, Refusal<u32>>
     ensures { meaning result ≡ unless (content_good (stream_in file.now) (length file.now / 512)) (refuses bad_content 0) (gives (sizes_in (stream_in file.now))) }
 {
     match shape(file) {
-        Ok(z) if rows::rows_good(file, z.inputs, z.outputs, z.states) => Ok(z),
+        Ok(size) if Rows::are_good(Rows { file, size }) => Ok(size),
         _ => Err(whole(Cause::Content)),
     }
 }

@@ -8,16 +8,12 @@ use lib.ListN.{length}
 use Rattle.std.proofs.Common.{Err}
 use Rattle.file_law.specs.Reading.{length_good, block_good, blocks_answer, open_answer}
 use Rattle.file_law.proofs.Every.{none-met, one-met}
-use Rattle.file_law.proofs.Tests.{Whole, whole}
 use Rattle.reader.specs.Meaning.{meaning}
 use Rattle.reader.proofs.open.Goals as goal
 use Rattle.reader.proofs.open.Goals.{Else-not-length_good}
 
 good : (c : Else-not-length_good) → length_good (length c.args.file.now) ≡ true
 good c = sym c.length_good.ensures ∙ c.if-not-length_good.false
-
-sizes : (c : Else-not-length_good) → Whole (length c.args.file.now)
-sizes c = whole _ (good c)
 
 pub returns-then-not-length_good : goal.returns-then-not-length_good
 unfolding open_answer
@@ -36,15 +32,3 @@ returns-in-None c =
     let f = c.args.file.now in
     c.content.ensures
     ∙ simp (good (goal.at.returns-in-None c).Else-not-length_good, none-met (block_good f (length f / 512)) (length f / 512) 0 (omega (arith, c.in-None.ensures.0)))
-
-pub overflow_cast-total : goal.overflow_cast-total
-overflow_cast-total c = omega (arith, (sizes (goal.at.overflow_cast-total c).Else-not-length_good).few)
-
-pub first_bad-requires : goal.first_bad-requires
-first_bad-requires c = ((sizes (goal.at.first_bad-requires c).Else-not-length_good).few, omega arith)
-
-pub fault-requires : goal.fault-requires
-fault-requires c = (omega (arith, c.in-Some.ensures.1, (sizes (goal.at.fault-requires c).Else-not-length_good).few), omega (arith, c.in-Some.ensures.1))
-
-pub content-requires : goal.content-requires
-content-requires c = good (goal.at.content-requires c).Else-not-length_good

@@ -5,7 +5,6 @@ use Prim.Native.Nat.{ℕ, ◌*◌}
 use Rattle.std.proofs.Common.{Err}
 use Rattle.file_law.specs.Bytes.{word2}
 use Rattle.file_law.specs.Reading.{stream_in}
-use Rattle.file_law.proofs.Tests.{within}
 use Rattle.file_law.proofs.Content.{Stated, too_short, odd_sizes, odd_length, sound}
 use Rattle.reader.specs.Meaning.{meaning}
 use Rattle.reader.proofs.shape.Goals as goal
@@ -15,11 +14,6 @@ use Rattle.reader.proofs.shape.Goals.{After-word-n, Then-are_good, else-are_good
 stated : (c : After-word-n) → Stated c.args.file.now c.byte-k.result c.byte-o.result c.word-n.result
 unfolding stream_in word2
 stated c = record { inputs = c.byte-k.ensures.0; outputs = c.byte-o.ensures.0; states = c.word-n.ensures.0 }
-
-pub blocks_for-requires : goal.blocks_for-requires
-blocks_for-requires c =
-    let z = within c.byte-k.result c.byte-o.result c.word-n.result (sym c.are_good.ensures ∙ c.if-are_good.true) in
-    (z.inputs, z.states)
 
 pub returns-then-len-lt512 : goal.returns-then-len-lt512
 returns-then-len-lt512 c = ap (λ r. meaning (Err r)) c.whole.ensures ∙ too_short _ c.if-len-lt512.true
