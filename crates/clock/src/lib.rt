@@ -7,6 +7,7 @@ ghost use Rattle.clock.specs.Step.{settled_in, Clocks, Starts};
 
 use nodes::Tree;
 use runs::{Buffer, Entry, How};
+use value::Reads;
 
 #[derive(Clone, Copy)]
 pub struct State {
@@ -56,7 +57,11 @@ pub fn step(t: &Tree, n: u16, left: u16, s: State, input: u32) -> Clocked
     let old = &s.entries;
     let m = runs::least_at(old, 0, 8, 0, u16::MAX);
     let mut o = Buffer::BLANK;
-    let h = resume::list(t, s.word, input, 0, n, left, 0, 8, m, old, &mut o);
+    let r = Reads {
+        word: s.word,
+        inputs: input,
+    };
+    let h = resume::list(t, r, 0, n, left, 0, 8, m, old, &mut o);
     Clocked {
         state: settled(&o, h, s.word),
         looked: o.looked % 64,

@@ -25,7 +25,7 @@ use Rattle.nodes.specs.declared.Sum.{Sum}
 use Rattle.nodes.specs.declared.Sum.TheVariants.{Plus, Minus, Times, Quotient, Remainder}
 use Rattle.nodes.specs.declared.Kind.{Kind}
 use Rattle.nodes.specs.declared.Kind.TheVariants as kinds
-use Rattle.value.specs.declared.Term.TheVariants.{Added, Other}
+use Rattle.std.specs.Prelude.{Option, Some, None}
 use Rattle.value.specs.Flat.{flat, truth_of, compare_z, decides}
 use Rattle.value.specs.Leaf.{is_leaf, Leaf, leaf_of}
 use Rattle.value.specs.Row.{adds, signed, term_of}
@@ -295,10 +295,19 @@ leaf_is (kinds.Logic o a b) d p r e = no_bool e
 pub none_more : (n : ℕ) → n < 2147483648 → 0 + n < 2147483648
 none_more n h = omega arith
 
-no_row : {A : Type 0} {o : Sum} {a b : ℕ} → Other ≡ Added o a b → A
+no_row : {A : Type 0} {o : Sum} {a b : ℕ} → ◌≡◌ {A = Option (Sum × ℕ × ℕ)} None (Some (o, a, b)) → A
 no_row e = absurd (let z : ◌≡◌ {A = ℕ} 0 1 = cc in omega arith)
 
-pub added : (k : Kind) {o : Sum} {a b : ℕ} → term_of k ≡ Added o a b → (k ≡ kinds.Arithmetic o a b) × (adds o ≡ true)
+-- the part with such a row
+abbrev part_with : Option (Sum × ℕ × ℕ) → Kind
+part_with None = kinds.Literal 0
+part_with (Some x) = kinds.Arithmetic x.0 x.1 x.2
+
+abbrev adds_in : Option (Sum × ℕ × ℕ) → Bool
+adds_in None = false
+adds_in (Some x) = adds x.0
+
+pub added : (k : Kind) {o : Sum} {a b : ℕ} → term_of k ≡ Some (o, a, b) → (k ≡ kinds.Arithmetic o a b) × (adds o ≡ true)
 added (kinds.Literal n) e = no_row e
 added (kinds.Truth b) e = no_row e
 added (kinds.Input i) e = no_row e
@@ -307,8 +316,8 @@ added (kinds.Integer low width) e = no_row e
 added (kinds.Bit low width j) e = no_row e
 added (kinds.Not a) e = no_row e
 added (kinds.Int a) e = no_row e
-added (kinds.Arithmetic Plus a b) e = (cc, cc)
-added (kinds.Arithmetic Minus a b) e = (cc, cc)
+added (kinds.Arithmetic Plus a b) e = (ap part_with e, sym (ap adds_in e))
+added (kinds.Arithmetic Minus a b) e = (ap part_with e, sym (ap adds_in e))
 added (kinds.Arithmetic Times a b) e = no_row e
 added (kinds.Arithmetic Quotient a b) e = no_row e
 added (kinds.Arithmetic Remainder a b) e = no_row e

@@ -9,10 +9,12 @@ ghost use Rattle.nodes.specs.Layout.{looks_at};
 ghost use Rattle.nodes.specs.Decode.{change, target, assigned, expr_at, most_deep};
 ghost use Rattle.nodes.specs.Looks.{looks};
 ghost use Rattle.nodes.specs.Good.{GoodTest, GoodAssign};
+ghost use Rattle.value.specs.Read.{reads};
 ghost use Rattle.runs.specs.Buffer.{Comes, Looked};
 
 use nodes::{Change, Target, Tree};
 use runs::{Buffer, How};
+use value::Reads;
 
 fn target_bit(v: Target) -> u16
     requires { bit_at (target v) < 32 }
@@ -65,21 +67,21 @@ fn set_bits(o: &mut Buffer, low: u16, width: u16, z: u32) -> How
 }
 
 // The assignment i of the expression x to v.
-pub fn assign(t: &Tree, word: u32, inputs: u32, i: u16, v: Target, x: u16, o: &mut Buffer) -> How
+pub fn assign(t: &Tree, r: Reads, i: u16, v: Target, x: u16, o: &mut Buffer) -> How
     requires { (length o.old.entries ≡ 8) × (GoodAssign (assigned v) (expr_at most_deep t.now x) × (looks_at t.now i ≡ looks (expr_at most_deep t.now x))) }
-    ensures { (b : ℕ) → Comes (waits (assign_tries (assigned v) (expr_at most_deep t.now x) (record { word = word; inputs = inputs })) done) (looks (expr_at most_deep t.now x)) b o.old o.new result }
+    ensures { (b : ℕ) → Comes (waits (assign_tries (assigned v) (expr_at most_deep t.now x) (reads r)) done) (looks (expr_at most_deep t.now x)) b o.old o.new result }
 {
     o.look(nodes::looks_at(t, i));
-    set_bits(o, v.low, v.width, sums::wrapped(t, word, inputs, x, 1024))
+    set_bits(o, v.low, v.width, sums::wrapped(t, r, x, 1024))
 }
 
 // The test x of the statement or case i.
-pub fn holds(t: &Tree, word: u32, inputs: u32, i: u16, x: u16, o: &mut Buffer) -> bool
+pub fn holds(t: &Tree, r: Reads, i: u16, x: u16, o: &mut Buffer) -> bool
     requires { (length o.old.entries ≡ 8) × (GoodTest (expr_at most_deep t.now x) × (looks_at t.now i ≡ looks (expr_at most_deep t.now x))) }
-    ensures { (result ≡ holds (expr_at most_deep t.now x) (record { word = word; inputs = inputs })) × Looked (looks (expr_at most_deep t.now x)) o.old o.new }
+    ensures { (result ≡ holds (expr_at most_deep t.now x) (reads r)) × Looked (looks (expr_at most_deep t.now x)) o.old o.new }
 {
     o.look(nodes::looks_at(t, i));
-    value::truth(value::value(t, word, inputs, x, 1024))
+    value::truth(value::value(t, r, x, 1024))
 }
 
 // A delay of which n clocks are left, at the statement i.

@@ -87,7 +87,7 @@ pub branches-closed-requires : goal.branches-closed-requires
 branches-closed-requires t c = c.requires.1.1.1.1.1.0.long
 
 pub branches-returns-then-e-i : goal.branches-returns-then-e-i
-branches-returns-then-e-i t c = no_branches c.args.left c.args.t.now c.args.i c.args.e (window c.args.old.now c.args.b c.args.w) (record { word = c.args.word; inputs = c.args.inputs }) c.if-e-i.true (joins-none c.closed.ensures)
+branches-returns-then-e-i t c = no_branches c.args.left c.args.t.now c.args.i c.args.e (window c.args.old.now c.args.b c.args.w) (record { word = c.args.r.word; inputs = c.args.r.inputs }) c.if-e-i.true (joins-none c.closed.ensures)
 
 pub branches-least_at-m-requires : goal.branches-least_at-m-requires
 branches-least_at-m-requires t c = ((omega (arith, branch_wide (br t (goal.at.branches-least_at-m-requires t c).After-branch_end_at-k), (c.from-wide.ensures ∙ c.width_at.ensures ∙ (branch_good (br t (goal.at.branches-least_at-m-requires t c).After-branch_end_at-k) c.requires.0).0), c.requires.1.1.1.0, c.requires.1.1.0)), c.requires.1.1.1.1.1.1.1)
@@ -99,7 +99,7 @@ pub branches-wipe-requires : goal.branches-wipe-requires
 branches-wipe-requires t c = (omega (arith, c.requires.1.1.0, c.requires.1.1.1.1.0), c.list-h.ensures.holds.long)
 
 pub branches-returns-then-is_jump : goal.branches-returns-then-is_jump
-branches-returns-then-is_jump t c = joins_jump c.list-h.ensures c.is_jump.ensures c.requires.1.1.1.1.0 (branch_beside (br t (goal.at.branches-returns-then-is_jump t c).After-branch_end_at-k) c.args.old.now c.args.b c.args.w (record { word = c.args.word; inputs = c.args.inputs }) (c.from-wide.ensures ∙ c.width_at.ensures ∙ (branch_good (br t (goal.at.branches-returns-then-is_jump t c).After-branch_end_at-k) c.requires.0).0) (omega (arith, branch_wide (br t (goal.at.branches-returns-then-is_jump t c).After-branch_end_at-k), (c.from-wide.ensures ∙ c.width_at.ensures ∙ (branch_good (br t (goal.at.branches-returns-then-is_jump t c).After-branch_end_at-k) c.requires.0).0), c.requires.1.1.1.0, c.requires.1.1.0))) c.if-is_jump.true c.wipe.ensures
+branches-returns-then-is_jump t c = joins_jump c.list-h.ensures c.is_jump.ensures c.requires.1.1.1.1.0 (branch_beside (br t (goal.at.branches-returns-then-is_jump t c).After-branch_end_at-k) c.args.old.now c.args.b c.args.w (record { word = c.args.r.word; inputs = c.args.r.inputs }) (c.from-wide.ensures ∙ c.width_at.ensures ∙ (branch_good (br t (goal.at.branches-returns-then-is_jump t c).After-branch_end_at-k) c.requires.0).0) (omega (arith, branch_wide (br t (goal.at.branches-returns-then-is_jump t c).After-branch_end_at-k), (c.from-wide.ensures ∙ c.width_at.ensures ∙ (branch_good (br t (goal.at.branches-returns-then-is_jump t c).After-branch_end_at-k) c.requires.0).0), c.requires.1.1.1.0, c.requires.1.1.0))) c.if-is_jump.true c.wipe.ensures
 
 pub branches-overflow_add-a : goal.branches-overflow_add-a
 branches-overflow_add-a t c = omega (arith, branch_wide (br t (goal.at.branches-overflow_add-a t c).After-branch_end_at-k), (c.from-wide.ensures ∙ c.width_at.ensures ∙ (branch_good (br t (goal.at.branches-overflow_add-a t c).After-branch_end_at-k) c.requires.0).0), c.requires.1.1.1.0, c.requires.1.1.0)
@@ -108,10 +108,10 @@ pub branches-overflow_sub-v : goal.branches-overflow_sub-v
 branches-overflow_sub-v t c = omega (arith, branch_wide (br t (goal.at.branches-overflow_sub-v t c).After-branch_end_at-k), (c.from-wide.ensures ∙ c.width_at.ensures ∙ (branch_good (br t (goal.at.branches-overflow_sub-v t c).After-branch_end_at-k) c.requires.0).0), c.requires.1.1.1.0, c.requires.1.1.0)
 
 pub branches-branches-requires : goal.branches-branches-requires
-branches-branches-requires t c = let x = (br t (goal.at.branches-branches-requires t c).After-branch_end_at-k) in (omega arith, ((branch_good x c.requires.0).1.1, (omega arith, ((omega (arith, branch_wide (br t (goal.at.branches-branches-requires t c).After-branch_end_at-k), (c.from-wide.ensures ∙ c.width_at.ensures ∙ (branch_good (br t (goal.at.branches-branches-requires t c).After-branch_end_at-k) c.requires.0).0), c.requires.1.1.1.0, c.requires.1.1.0)), ((omega (arith, branch_wide (br t (goal.at.branches-branches-requires t c).After-branch_end_at-k), (c.from-wide.ensures ∙ c.width_at.ensures ∙ (branch_good (br t (goal.at.branches-branches-requires t c).After-branch_end_at-k) c.requires.0).0), c.requires.1.1.1.0, c.requires.1.1.0)), (omega (arith, c.requires.1.1.1.1.0), (branch_open x c.args.old.now c.args.b c.args.w (record { word = c.args.word; inputs = c.args.inputs }) (c.from-wide.ensures ∙ c.width_at.ensures ∙ (branch_good (br t (goal.at.branches-branches-requires t c).After-branch_end_at-k) c.requires.0).0) c.list-h.ensures c.requires.1.1.1.1.1.0, (c.requires.1.1.1.1.1.1.0, (c.requires.1.1.1.1.1.1.1)))))))))
+branches-branches-requires t c = let x = (br t (goal.at.branches-branches-requires t c).After-branch_end_at-k) in (omega arith, ((branch_good x c.requires.0).1.1, (omega arith, ((omega (arith, branch_wide (br t (goal.at.branches-branches-requires t c).After-branch_end_at-k), (c.from-wide.ensures ∙ c.width_at.ensures ∙ (branch_good (br t (goal.at.branches-branches-requires t c).After-branch_end_at-k) c.requires.0).0), c.requires.1.1.1.0, c.requires.1.1.0)), ((omega (arith, branch_wide (br t (goal.at.branches-branches-requires t c).After-branch_end_at-k), (c.from-wide.ensures ∙ c.width_at.ensures ∙ (branch_good (br t (goal.at.branches-branches-requires t c).After-branch_end_at-k) c.requires.0).0), c.requires.1.1.1.0, c.requires.1.1.0)), (omega (arith, c.requires.1.1.1.1.0), (branch_open x c.args.old.now c.args.b c.args.w (record { word = c.args.r.word; inputs = c.args.r.inputs }) (c.from-wide.ensures ∙ c.width_at.ensures ∙ (branch_good (br t (goal.at.branches-branches-requires t c).After-branch_end_at-k) c.requires.0).0) c.list-h.ensures c.requires.1.1.1.1.1.0, (c.requires.1.1.1.1.1.1.0, (c.requires.1.1.1.1.1.1.1)))))))))
 
 pub branches-returns : goal.branches-returns
-branches-returns t c = joins-next c.list-h.ensures c.is_jump.ensures c.requires.1.1.1.1.0 (branch_beside (br t (goal.at.branches-returns t c).After-branch_end_at-k) c.args.old.now c.args.b c.args.w (record { word = c.args.word; inputs = c.args.inputs }) (c.from-wide.ensures ∙ c.width_at.ensures ∙ (branch_good (br t (goal.at.branches-returns t c).After-branch_end_at-k) c.requires.0).0) (omega (arith, branch_wide (br t (goal.at.branches-returns t c).After-branch_end_at-k), (c.from-wide.ensures ∙ c.width_at.ensures ∙ (branch_good (br t (goal.at.branches-returns t c).After-branch_end_at-k) c.requires.0).0), c.requires.1.1.1.0, c.requires.1.1.0))) c.if-is_jump.false c.later-so.ensures c.gathered-on.ensures c.gathered-off.ensures c.branches.ensures
+branches-returns t c = joins-next c.list-h.ensures c.is_jump.ensures c.requires.1.1.1.1.0 (branch_beside (br t (goal.at.branches-returns t c).After-branch_end_at-k) c.args.old.now c.args.b c.args.w (record { word = c.args.r.word; inputs = c.args.r.inputs }) (c.from-wide.ensures ∙ c.width_at.ensures ∙ (branch_good (br t (goal.at.branches-returns t c).After-branch_end_at-k) c.requires.0).0) (omega (arith, branch_wide (br t (goal.at.branches-returns t c).After-branch_end_at-k), (c.from-wide.ensures ∙ c.width_at.ensures ∙ (branch_good (br t (goal.at.branches-returns t c).After-branch_end_at-k) c.requires.0).0), c.requires.1.1.1.0, c.requires.1.1.0))) c.if-is_jump.false c.later-so.ensures c.gathered-on.ensures c.gathered-off.ensures c.branches.ensures
 
 pub cases-list-requires : goal.cases-list-requires
 cases-list-requires t c = let z = cases_lt t (goal.at.cases-list-requires t c).Start in let x = df t (goal.at.cases-list-requires t c).In-Default in let y = c.requires.1.1.1 in (omega arith, (default-good x c.requires.0, (omega arith, (fewer y (omega arith) _ (omega (arith, default_wide x))))))
@@ -120,7 +120,7 @@ pub cases-cases-requires : goal.cases-cases-requires
 cases-cases-requires t c = let y = c.requires.1.1.1 in (c.requires.0, (omega arith, (omega arith, y.free)))
 
 pub cases-returns-then-m-i : goal.cases-returns-then-m-i
-cases-returns-then-m-i t c = case-head (th t (goal.at.cases-returns-then-m-i t c).In-Test) (omega arith) c.requires.1.1.1 (record { word = c.args.word; inputs = c.args.inputs }) c.if-m-i.true c.cases.ensures
+cases-returns-then-m-i t c = case-head (th t (goal.at.cases-returns-then-m-i t c).In-Test) (omega arith) c.requires.1.1.1 (record { word = c.args.r.word; inputs = c.args.r.inputs }) c.if-m-i.true c.cases.ensures
 
 pub cases-kept-k-requires : goal.cases-kept-k-requires
 cases-kept-k-requires t c = let z = cases_lt t (goal.at.cases-kept-k-requires t c).Start in omega arith
@@ -135,25 +135,25 @@ pub cases-cases-requires-in-Finished : goal.cases-cases-requires-in-Finished
 cases-cases-requires-in-Finished t c = let z = cases_lt t (goal.at.cases-cases-requires-in-Finished t c).Start in let x = (ts t (goal.at.cases-cases-requires-in-Finished t c).After-kept-k) in let y = c.requires.1.1.1 in ((test_good x c.requires.0).1.1.1, (omega arith, (omega (arith, test-rest-wide x), still_open c.list-in-Test.ensures c.in-Finished.is y.free)))
 
 pub cases-returns-in-Finished : goal.cases-returns-in-Finished
-cases-returns-in-Finished t c = comes_then c.list-in-Test.ensures (case_then (ts t (goal.at.cases-returns-in-Finished t c).After-kept-k) (omega arith) c.requires.1.1.1 (record { word = c.args.word; inputs = c.args.inputs }) c.if-m-i.false c.if-k-m.false) c.in-Finished.is c.cases-in-Finished.ensures
+cases-returns-in-Finished t c = comes_then c.list-in-Test.ensures (case_then (ts t (goal.at.cases-returns-in-Finished t c).After-kept-k) (omega arith) c.requires.1.1.1 (record { word = c.args.r.word; inputs = c.args.r.inputs }) c.if-m-i.false c.if-k-m.false) c.in-Finished.is c.cases-in-Finished.ensures
 
 pub cases-then_at-requires : goal.cases-then_at-requires
 cases-then_at-requires t c = let y = c.requires.1.1.1 in omega (arith, some-case (cases_at c.args.left c.args.t.now c.args.i c.args.e))
 
 pub cases-returns-in_default : goal.cases-returns-in_default
-cases-returns-in_default t c = comes_on c.list-in-Test.ensures (case_then (ts t (goal.at.cases-returns-in_default t c).After-kept-k) (omega arith) c.requires.1.1.1 (record { word = c.args.word; inputs = c.args.inputs }) c.if-m-i.false c.if-k-m.false) (search rules) c.then_at.ensures
+cases-returns-in_default t c = comes_on c.list-in-Test.ensures (case_then (ts t (goal.at.cases-returns-in_default t c).After-kept-k) (omega arith) c.requires.1.1.1 (record { word = c.args.r.word; inputs = c.args.r.inputs }) c.if-m-i.false c.if-k-m.false) (search rules) c.then_at.ensures
 
 pub cases-cases-requires-then-k-m : goal.cases-cases-requires-then-k-m
 cases-cases-requires-then-k-m t c = let z = cases_lt t (goal.at.cases-cases-requires-then-k-m t c).Start in let x = (ts t (goal.at.cases-cases-requires-then-k-m t c).After-kept-k) in let y = c.requires.1.1.1 in (omega arith, ((test_good x c.requires.0).1.1.1, (omega arith, (omega arith, (further y (omega arith) _ (omega arith) c.if-k-m.true _ (omega (arith, test-rest-wide x)))))))
 
 pub cases-returns-in-Default : goal.cases-returns-in-Default
-cases-returns-in-Default t c = default_is (df t (goal.at.cases-returns-in-Default t c).In-Default) (window c.args.old.now c.args.b c.args.w) (record { word = c.args.word; inputs = c.args.inputs }) c.list.ensures
+cases-returns-in-Default t c = default_is (df t (goal.at.cases-returns-in-Default t c).In-Default) (window c.args.old.now c.args.b c.args.w) (record { word = c.args.r.word; inputs = c.args.r.inputs }) c.list.ensures
 
 pub cases-returns-then-k-m : goal.cases-returns-then-k-m
-cases-returns-then-k-m t c = case-later (ts t (goal.at.cases-returns-then-k-m t c).After-kept-k) (omega arith) c.requires.1.1.1 (record { word = c.args.word; inputs = c.args.inputs }) c.if-m-i.false c.if-k-m.true c.cases-then-k-m.ensures
+cases-returns-then-k-m t c = case-later (ts t (goal.at.cases-returns-then-k-m t c).After-kept-k) (omega arith) c.requires.1.1.1 (record { word = c.args.r.word; inputs = c.args.r.inputs }) c.if-m-i.false c.if-k-m.true c.cases-then-k-m.ensures
 
 pub list-returns-then-e-m : goal.list-returns-then-e-m
-list-returns-then-e-m t c = list-outside c.args.left c.args.t.now c.args.i c.args.e (record { word = c.args.word; inputs = c.args.inputs }) c.requires.1.1 (omega arith) (omega arith) c.requires.1.0 c.if-e-m.true
+list-returns-then-e-m t c = list-outside c.args.left c.args.t.now c.args.i c.args.e (record { word = c.args.r.word; inputs = c.args.r.inputs }) c.requires.1.1 (omega arith) (omega arith) c.requires.1.0 c.if-e-m.true
 
 pub list-overflow_sub-less : goal.list-overflow_sub-less
 list-overflow_sub-less t c = let z = list-lt t (goal.at.list-overflow_sub-less t c).Start in omega arith
@@ -168,19 +168,19 @@ pub list-list-requires-in-Finished : goal.list-list-requires-in-Finished
 list-list-requires-in-Finished t c = let z = list-lt t (goal.at.list-list-requires-in-Finished t c).Start in let x = (ls t (goal.at.list-list-requires-in-Finished t c).After-end_at-k) in let y = c.requires.1.1 in ((list-good x c.requires.0).1, (omega arith, (omega (arith, list-rest-wide x), still_open c.one.ensures c.in-Finished.is y.free)))
 
 pub list-returns-in-Finished : goal.list-returns-in-Finished
-list-returns-in-Finished t c = comes_then c.one.ensures (list_then (ls t (goal.at.list-returns-in-Finished t c).After-end_at-k) c.end_at-k.ensures (omega arith) c.requires.1.1 (record { word = c.args.word; inputs = c.args.inputs }) c.if-k-m.false) c.in-Finished.is c.list-in-Finished.ensures
+list-returns-in-Finished t c = comes_then c.one.ensures (list_then (ls t (goal.at.list-returns-in-Finished t c).After-end_at-k) c.end_at-k.ensures (omega arith) c.requires.1.1 (record { word = c.args.r.word; inputs = c.args.r.inputs }) c.if-k-m.false) c.in-Finished.is c.list-in-Finished.ensures
 
 pub list-then_at-requires : goal.list-then_at-requires
 list-then_at-requires t c = let y = c.requires.1.1 in omega (arith, some-list (list_at c.args.left c.args.t.now c.args.i c.args.e))
 
 pub list-returns-in_default : goal.list-returns-in_default
-list-returns-in_default t c = comes_on c.one.ensures (list_then (ls t (goal.at.list-returns-in_default t c).After-end_at-k) c.end_at-k.ensures (omega arith) c.requires.1.1 (record { word = c.args.word; inputs = c.args.inputs }) c.if-k-m.false) (search rules) c.then_at.ensures
+list-returns-in_default t c = comes_on c.one.ensures (list_then (ls t (goal.at.list-returns-in_default t c).After-end_at-k) c.end_at-k.ensures (omega arith) c.requires.1.1 (record { word = c.args.r.word; inputs = c.args.r.inputs }) c.if-k-m.false) (search rules) c.then_at.ensures
 
 pub list-list-requires : goal.list-list-requires
 list-list-requires t c = let z = list-lt t (goal.at.list-list-requires t c).Start in let x = (ls t (goal.at.list-list-requires t c).After-end_at-k) in let y = c.requires.1.1 in (omega arith, ((list-good x c.requires.0).1, (omega arith, (further y (omega arith) _ (omega arith) c.if-k-m.true _ (omega (arith, list-rest-wide x))))))
 
 pub list-returns-then-k-m : goal.list-returns-then-k-m
-list-returns-then-k-m t c = list-later (ls t (goal.at.list-returns-then-k-m t c).After-end_at-k) c.end_at-k.ensures (omega arith) c.requires.1.1 (record { word = c.args.word; inputs = c.args.inputs }) c.if-k-m.true c.list.ensures
+list-returns-then-k-m t c = list-later (ls t (goal.at.list-returns-then-k-m t c).After-end_at-k) c.end_at-k.ensures (omega arith) c.requires.1.1 (record { word = c.args.r.word; inputs = c.args.r.inputs }) c.if-k-m.true c.list.ensures
 
 pub one-overflow_sub-less : goal.one-overflow_sub-less
 one-overflow_sub-less t c = let z = one-lt t ((goal.at.one-overflow_sub-less t c).Start) in omega arith
@@ -207,7 +207,7 @@ pub one-list-requires : goal.one-list-requires
 one-list-requires t c = let z = one-lt t (goal.at.one-list-requires t c).Start in let x = (ei t (goal.at.one-list-requires t c).After-kept-k) in let y = c.requires.1.1.1 in (omega arith, ((either-good x c.requires.0).0, (omega arith, (deeper y (omega arith) (eqb-false _ _ (eio t (goal.at.one-list-requires t c).After-kept-k).0) _ (omega (arith, either-first-wide x))))))
 
 pub one-returns-then-m-k : goal.one-returns-then-m-k
-one-returns-then-m-k t c = either_first (ei t (goal.at.one-returns-then-m-k t c).After-kept-k) (omega arith) c.requires.1.1.1 (record { word = c.args.word; inputs = c.args.inputs }) (eqb-false _ _ (eio t (goal.at.one-returns-then-m-k t c).After-kept-k).0) c.if-m-k.true c.list.ensures
+one-returns-then-m-k t c = either_first (ei t (goal.at.one-returns-then-m-k t c).After-kept-k) (omega arith) c.requires.1.1.1 (record { word = c.args.r.word; inputs = c.args.r.inputs }) (eqb-false _ _ (eio t (goal.at.one-returns-then-m-k t c).After-kept-k).0) c.if-m-k.true c.list.ensures
 
 pub one-list-requires-else-m-k : goal.one-list-requires-else-m-k
 one-list-requires-else-m-k t c = let z = one-lt t (goal.at.one-list-requires-else-m-k t c).Start in let x = (ei t (goal.at.one-list-requires-else-m-k t c).After-kept-k) in let y = c.requires.1.1.1 in (omega arith, ((either-good x c.requires.0).1, (omega arith, (further y (omega arith) _ (omega arith) c.if-m-k.false _ (omega (arith, either-rest-wide x))))))
@@ -222,7 +222,7 @@ pub one-looped-requires : goal.one-looped-requires
 one-looped-requires t c = let z = one-lt t (goal.at.one-looped-requires t c).Start in let y = c.requires.1.1.1 in (omega arith, (omega (arith, (re t (goal.at.one-looped-requires t c).In-Repeat).is.wide, some-list (list_at (c.args.left - 1) c.args.t.now (c.args.i + 1) c.args.e)), c.list-in-Repeat.ensures.holds.long))
 
 pub one-returns-in_default : goal.one-returns-in_default
-one-returns-in_default t c = comes_round c.list-in-Repeat.ensures (repeat_again (re t (goal.at.one-returns-in_default t c).In-Repeat) c.requires.1.1.1 (record { word = c.args.word; inputs = c.args.inputs }) (eqb-false _ _ (reo t (goal.at.one-returns-in_default t c).In-Repeat).0)) (search rules) c.looped.ensures
+one-returns-in_default t c = comes_round c.list-in-Repeat.ensures (repeat_again (re t (goal.at.one-returns-in_default t c).In-Repeat) c.requires.1.1.1 (record { word = c.args.r.word; inputs = c.args.r.inputs }) (eqb-false _ _ (reo t (goal.at.one-returns-in_default t c).In-Repeat).0)) (search rules) c.looped.ensures
 
 pub one-one-requires-in-Finished : goal.one-one-requires-in-Finished
 one-one-requires-in-Finished t c = let z = one-lt t (goal.at.one-one-requires-in-Finished t c).Start in let y = c.requires.1.1.1 in (c.requires.0, (omega arith, (c.requires.1.1.0, (omega arith, still_open c.list-in-Repeat.ensures c.in-Finished.is y.free))))
@@ -240,19 +240,19 @@ pub one-branches-requires : goal.one-branches-requires
 one-branches-requires t c = let z = one-lt t (goal.at.one-branches-requires t c).Start in let x = (pa t (goal.at.one-branches-requires t c).In-Together) in let y = c.requires.1.1.1 in (omega arith, (parallel-good x c.requires.0, (omega arith, (y.room, (omega (arith, parallel-wide x), (omega arith, (y.free, (y.leaves, y.kept))))))))
 
 pub one-returns-in-Plain : goal.one-returns-in-Plain
-one-returns-in-Plain t c = starts c.args.left c.args.t.now c.args.i c.args.e (let z = one-lt t (goal.at.one-returns-in-Plain t c).Start in omega arith) c.requires.1.1.0 (omega arith) c.requires.1.1.1 (record { word = c.args.word; inputs = c.args.inputs }) c.shape_from.ensures c.in-Plain.is c.one.ensures
+one-returns-in-Plain t c = starts c.args.left c.args.t.now c.args.i c.args.e (let z = one-lt t (goal.at.one-returns-in-Plain t c).Start in omega arith) c.requires.1.1.0 (omega arith) c.requires.1.1.1 (record { word = c.args.r.word; inputs = c.args.r.inputs }) c.shape_from.ensures c.in-Plain.is c.one.ensures
 
 pub one-returns-in-Waiting : goal.one-returns-in-Waiting
-one-returns-in-Waiting t c = let y = c.requires.1.1.1 in let v = wait_wide c.args.left c.args.t.now c.args.i c.args.e (let z = one-lt t (goal.at.one-returns-in-Waiting t c).Start in omega arith) c.requires.1.1.0 refl _ (waits_for t (goal.at.one-returns-in-Waiting t c).After-shape_from _ c.in-Waiting.is) in wait_is c.args.left c.args.t.now c.args.i c.args.e (let z = one-lt t (goal.at.one-returns-in-Waiting t c).Start in omega arith) c.requires.1.1.0 refl _ (waits_for t (goal.at.one-returns-in-Waiting t c).After-shape_from _ c.in-Waiting.is) (window c.args.old.now c.args.b c.args.w) (record { word = c.args.word; inputs = c.args.inputs }) (comes_as (ap (meaning.delayed (head_at c.args.t.now c.args.i)) (sym (c.left_of.ensures c.args.w (omega arith)))) refl (c.delay.ensures (head_at c.args.t.now c.args.i).place))
+one-returns-in-Waiting t c = let y = c.requires.1.1.1 in let v = wait_wide c.args.left c.args.t.now c.args.i c.args.e (let z = one-lt t (goal.at.one-returns-in-Waiting t c).Start in omega arith) c.requires.1.1.0 refl _ (waits_for t (goal.at.one-returns-in-Waiting t c).After-shape_from _ c.in-Waiting.is) in wait_is c.args.left c.args.t.now c.args.i c.args.e (let z = one-lt t (goal.at.one-returns-in-Waiting t c).Start in omega arith) c.requires.1.1.0 refl _ (waits_for t (goal.at.one-returns-in-Waiting t c).After-shape_from _ c.in-Waiting.is) (window c.args.old.now c.args.b c.args.w) (record { word = c.args.r.word; inputs = c.args.r.inputs }) (comes_as (ap (meaning.delayed (head_at c.args.t.now c.args.i)) (sym (c.left_of.ensures c.args.w (omega arith)))) refl (c.delay.ensures (head_at c.args.t.now c.args.i).place))
 
 pub one-returns-else-m-k : goal.one-returns-else-m-k
-one-returns-else-m-k t c = either_second (ei t (goal.at.one-returns-else-m-k t c).After-kept-k) (omega arith) c.requires.1.1.1 (record { word = c.args.word; inputs = c.args.inputs }) (eqb-false _ _ (eio t (goal.at.one-returns-else-m-k t c).After-kept-k).0) c.if-m-k.false c.list-else-m-k.ensures
+one-returns-else-m-k t c = either_second (ei t (goal.at.one-returns-else-m-k t c).After-kept-k) (omega arith) c.requires.1.1.1 (record { word = c.args.r.word; inputs = c.args.r.inputs }) (eqb-false _ _ (eio t (goal.at.one-returns-else-m-k t c).After-kept-k).0) c.if-m-k.false c.list-else-m-k.ensures
 
 pub one-returns-in-Finished : goal.one-returns-in-Finished
-one-returns-in-Finished t c = comes_again c.list-in-Repeat.ensures (repeat_again (re t (goal.at.one-returns-in-Finished t c).In-Repeat) c.requires.1.1.1 (record { word = c.args.word; inputs = c.args.inputs }) (eqb-false _ _ (reo t (goal.at.one-returns-in-Finished t c).In-Repeat).0)) c.in-Finished.is c.one-in-Finished.ensures
+one-returns-in-Finished t c = comes_again c.list-in-Repeat.ensures (repeat_again (re t (goal.at.one-returns-in-Finished t c).In-Repeat) c.requires.1.1.1 (record { word = c.args.r.word; inputs = c.args.r.inputs }) (eqb-false _ _ (reo t (goal.at.one-returns-in-Finished t c).In-Repeat).0)) c.in-Finished.is c.one-in-Finished.ensures
 
 pub one-returns-in-Tests : goal.one-returns-in-Tests
-one-returns-in-Tests t c = switch_in (sw t (goal.at.one-returns-in-Tests t c).In-Tests) c.requires.1.1.1 (record { word = c.args.word; inputs = c.args.inputs }) (eqb-false _ _ (swo t (goal.at.one-returns-in-Tests t c).In-Tests).0) c.cases.ensures c.caught.ensures
+one-returns-in-Tests t c = switch_in (sw t (goal.at.one-returns-in-Tests t c).In-Tests) c.requires.1.1.1 (record { word = c.args.r.word; inputs = c.args.r.inputs }) (eqb-false _ _ (swo t (goal.at.one-returns-in-Tests t c).In-Tests).0) c.cases.ensures c.caught.ensures
 
 pub one-returns-in-Together : goal.one-returns-in-Together
-one-returns-in-Together t c = parallel_in (pa t (goal.at.one-returns-in-Together t c).In-Together) c.requires.1.1.1 (record { word = c.args.word; inputs = c.args.inputs }) (eqb-false _ _ (pao t (goal.at.one-returns-in-Together t c).In-Together).0) c.branches.ensures c.caught-in-Together.ensures
+one-returns-in-Together t c = parallel_in (pa t (goal.at.one-returns-in-Together t c).In-Together) c.requires.1.1.1 (record { word = c.args.r.word; inputs = c.args.r.inputs }) (eqb-false _ _ (pao t (goal.at.one-returns-in-Together t c).In-Together).0) c.branches.ensures c.caught-in-Together.ensures

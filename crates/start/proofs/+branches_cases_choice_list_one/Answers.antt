@@ -57,7 +57,7 @@ module _ (t : ℕ) (c : one-After-node_at-n t) where
   wide e = rw (opens e) at c.requires.1.1.1.0
 
   abbrev reads : Reads
-  reads = record { word = c.args.word; inputs = c.args.inputs }
+  reads = record { word = c.args.r.word; inputs = c.args.r.inputs }
 
   is_as : {k : What} → c.node_at-n.result.what ≡ k → {b : ℕ} {h : How} {l m : Buffer} → Comes (meaning.start (kindly k) reads) (start_seen (kindly k) reads) b l m h
       → Comes (meaning.start (stmt_at c.args.left c.args.t.now c.args.i c.args.e) reads) (start_seen (stmt_at c.args.left c.args.t.now c.args.i c.args.e) reads) b l m h
@@ -81,7 +81,7 @@ branches-closed-requires t c = c.requires.1.1.1.1.long
 
 pub branches-returns-then-e-i : goal.branches-returns-then-e-i
 unfolding meaning.start start_seen Good meaning.activities
-branches-returns-then-e-i t c = no_branches c.args.left c.args.t.now c.args.i c.args.e (record { word = c.args.word; inputs = c.args.inputs }) c.if-e-i.true (joins-none c.closed.ensures)
+branches-returns-then-e-i t c = no_branches c.args.left c.args.t.now c.args.i c.args.e (record { word = c.args.r.word; inputs = c.args.r.inputs }) c.if-e-i.true (joins-none c.closed.ensures)
 
 pub branches-list-h-requires : goal.branches-list-h-requires
 unfolding meaning.start start_seen Good meaning.activities
@@ -93,7 +93,7 @@ branches-wipe-requires t c = (omega (arith, c.requires.1.1.1.0), c.list-h.ensure
 
 pub branches-returns-then-is_jump : goal.branches-returns-then-is_jump
 unfolding meaning.start start_seen Good meaning.activities
-branches-returns-then-is_jump t c = joins_jump c.list-h.ensures c.is_jump.ensures c.requires.1.1.1.0 (branch_beside (br t (goal.at.branches-returns-then-is_jump t c).After-branch_end_at-m) (record { word = c.args.word; inputs = c.args.inputs }) refl) c.if-is_jump.true c.wipe.ensures
+branches-returns-then-is_jump t c = joins_jump c.list-h.ensures c.is_jump.ensures c.requires.1.1.1.0 (branch_beside (br t (goal.at.branches-returns-then-is_jump t c).After-branch_end_at-m) (record { word = c.args.r.word; inputs = c.args.r.inputs }) refl) c.if-is_jump.true c.wipe.ensures
 
 pub branches-overflow_add-a : goal.branches-overflow_add-a
 unfolding meaning.start start_seen Good meaning.activities
@@ -101,15 +101,15 @@ branches-overflow_add-a t c = omega (arith, branch_wide (br t (goal.at.branches-
 
 pub branches-branches-requires : goal.branches-branches-requires
 unfolding meaning.start start_seen Good meaning.activities
-branches-branches-requires t c = let x = br t (goal.at.branches-branches-requires t c).After-branch_end_at-m in (omega arith, ((branch_good x c.requires.0).1.1, (omega arith, (omega (arith, branch_wide x, (c.from.ensures ∙ c.width_at.ensures ∙ (branch_good (br t (goal.at.branches-branches-requires t c).After-branch_end_at-m) c.requires.0).0)), (omega arith, (rw (c.from.ensures ∙ c.width_at.ensures ∙ (branch_good (br t (goal.at.branches-branches-requires t c).After-branch_end_at-m) c.requires.0).0) (branch_open x (record { word = c.args.word; inputs = c.args.inputs }) c.list-h.ensures c.requires.1.1.1.1)))))))
+branches-branches-requires t c = let x = br t (goal.at.branches-branches-requires t c).After-branch_end_at-m in (omega arith, ((branch_good x c.requires.0).1.1, (omega arith, (omega (arith, branch_wide x, (c.from.ensures ∙ c.width_at.ensures ∙ (branch_good (br t (goal.at.branches-branches-requires t c).After-branch_end_at-m) c.requires.0).0)), (omega arith, (rw (c.from.ensures ∙ c.width_at.ensures ∙ (branch_good (br t (goal.at.branches-branches-requires t c).After-branch_end_at-m) c.requires.0).0) (branch_open x (record { word = c.args.r.word; inputs = c.args.r.inputs }) c.list-h.ensures c.requires.1.1.1.1)))))))
 
 pub branches-returns : goal.branches-returns
 unfolding meaning.start start_seen Good meaning.activities
-branches-returns t c = joins-next c.list-h.ensures c.is_jump.ensures c.requires.1.1.1.0 (branch_beside (br t (goal.at.branches-returns t c).After-branch_end_at-m) (record { word = c.args.word; inputs = c.args.inputs }) (c.from.ensures ∙ c.width_at.ensures ∙ (branch_good (br t (goal.at.branches-returns t c).After-branch_end_at-m) c.requires.0).0)) c.if-is_jump.false c.later-so.ensures c.gathered-on.ensures c.gathered-off.ensures c.branches.ensures
+branches-returns t c = joins-next c.list-h.ensures c.is_jump.ensures c.requires.1.1.1.0 (branch_beside (br t (goal.at.branches-returns t c).After-branch_end_at-m) (record { word = c.args.r.word; inputs = c.args.r.inputs }) (c.from.ensures ∙ c.width_at.ensures ∙ (branch_good (br t (goal.at.branches-returns t c).After-branch_end_at-m) c.requires.0).0)) c.if-is_jump.false c.later-so.ensures c.gathered-on.ensures c.gathered-off.ensures c.branches.ensures
 
 pub cases-returns-then-e-i : goal.cases-returns-then-e-i
 unfolding meaning.start start_seen Good meaning.activities
-cases-returns-then-e-i t c = cases_none c.args.left c.args.t.now c.args.i c.args.e (record { word = c.args.word; inputs = c.args.inputs }) c.args.b c.args.o.now c.requires.1.1.1.long c.if-e-i.true
+cases-returns-then-e-i t c = cases_none c.args.left c.args.t.now c.args.i c.args.e (record { word = c.args.r.word; inputs = c.args.r.inputs }) c.args.b c.args.o.now c.requires.1.1.1.long c.if-e-i.true
 
 pub cases-list-requires : goal.cases-list-requires
 unfolding meaning.start start_seen Good meaning.activities
@@ -129,7 +129,7 @@ cases-cases-requires-in-Finished t c = let x = ts t (goal.at.cases-cases-require
 
 pub cases-returns-in-Finished : goal.cases-returns-in-Finished
 unfolding meaning.start start_seen Good meaning.activities
-cases-returns-in-Finished t c = test-true (ts t (goal.at.cases-returns-in-Finished t c).After-kept-k) (record { word = c.args.word; inputs = c.args.inputs }) (sym c.holds.ensures.0 ∙ c.if-not-holds.false) c.holds.ensures.1 (comes_then c.list-in-Test.ensures (test_then (ts t (goal.at.cases-returns-in-Finished t c).After-kept-k) (record { word = c.args.word; inputs = c.args.inputs }) (sym c.holds.ensures.0 ∙ c.if-not-holds.false)) c.in-Finished.is c.cases-in-Finished.ensures)
+cases-returns-in-Finished t c = test-true (ts t (goal.at.cases-returns-in-Finished t c).After-kept-k) (record { word = c.args.r.word; inputs = c.args.r.inputs }) (sym c.holds.ensures.0 ∙ c.if-not-holds.false) c.holds.ensures.1 (comes_then c.list-in-Test.ensures (test_then (ts t (goal.at.cases-returns-in-Finished t c).After-kept-k) (record { word = c.args.r.word; inputs = c.args.r.inputs }) (sym c.holds.ensures.0 ∙ c.if-not-holds.false)) c.in-Finished.is c.cases-in-Finished.ensures)
 
 pub cases-then_at-requires : goal.cases-then_at-requires
 unfolding meaning.start start_seen Good meaning.activities
@@ -137,7 +137,7 @@ cases-then_at-requires t c = omega (arith, some-case (cases_at c.args.left c.arg
 
 pub cases-returns-in_default : goal.cases-returns-in_default
 unfolding meaning.start start_seen Good meaning.activities
-cases-returns-in_default t c = test-true (ts t (goal.at.cases-returns-in_default t c).After-kept-k) (record { word = c.args.word; inputs = c.args.inputs }) (sym c.holds.ensures.0 ∙ c.if-not-holds.false) c.holds.ensures.1 (comes_on c.list-in-Test.ensures (test_then (ts t (goal.at.cases-returns-in_default t c).After-kept-k) (record { word = c.args.word; inputs = c.args.inputs }) (sym c.holds.ensures.0 ∙ c.if-not-holds.false)) (search rules) c.then_at.ensures)
+cases-returns-in_default t c = test-true (ts t (goal.at.cases-returns-in_default t c).After-kept-k) (record { word = c.args.r.word; inputs = c.args.r.inputs }) (sym c.holds.ensures.0 ∙ c.if-not-holds.false) c.holds.ensures.1 (comes_on c.list-in-Test.ensures (test_then (ts t (goal.at.cases-returns-in_default t c).After-kept-k) (record { word = c.args.r.word; inputs = c.args.r.inputs }) (sym c.holds.ensures.0 ∙ c.if-not-holds.false)) (search rules) c.then_at.ensures)
 
 pub cases-cases-requires : goal.cases-cases-requires
 unfolding meaning.start start_seen Good meaning.activities
@@ -145,11 +145,11 @@ cases-cases-requires t c = let x = ts t (goal.at.cases-cases-requires t c).After
 
 pub cases-returns-in-Default : goal.cases-returns-in-Default
 unfolding meaning.start start_seen Good meaning.activities
-cases-returns-in-Default t c = default_is (df t (goal.at.cases-returns-in-Default t c).In-Default) (record { word = c.args.word; inputs = c.args.inputs }) c.list.ensures
+cases-returns-in-Default t c = default_is (df t (goal.at.cases-returns-in-Default t c).In-Default) (record { word = c.args.r.word; inputs = c.args.r.inputs }) c.list.ensures
 
 pub cases-returns-then-not-holds : goal.cases-returns-then-not-holds
 unfolding meaning.start start_seen Good meaning.activities
-cases-returns-then-not-holds t c = test-false (ts t (goal.at.cases-returns-then-not-holds t c).After-kept-k) (record { word = c.args.word; inputs = c.args.inputs }) (sym c.holds.ensures.0 ∙ c.if-not-holds.true) c.holds.ensures.1 c.cases.ensures
+cases-returns-then-not-holds t c = test-false (ts t (goal.at.cases-returns-then-not-holds t c).After-kept-k) (record { word = c.args.r.word; inputs = c.args.r.inputs }) (sym c.holds.ensures.0 ∙ c.if-not-holds.true) c.holds.ensures.1 c.cases.ensures
 
 pub choice-holds-requires : goal.choice-holds-requires
 unfolding meaning.start start_seen Good meaning.activities
@@ -161,7 +161,7 @@ choice-list-requires t c = let x = ch t (goal.at.choice-list-requires t c).After
 
 pub choice-returns-then-holds : goal.choice-returns-then-holds
 unfolding meaning.start start_seen Good meaning.activities
-choice-returns-then-holds t c = choice-true (ch t (goal.at.choice-returns-then-holds t c).After-kept-k) (record { word = c.args.word; inputs = c.args.inputs }) c.holds.ensures.1 (sym c.holds.ensures.0 ∙ c.if-holds.true) c.list.ensures
+choice-returns-then-holds t c = choice-true (ch t (goal.at.choice-returns-then-holds t c).After-kept-k) (record { word = c.args.r.word; inputs = c.args.r.inputs }) c.holds.ensures.1 (sym c.holds.ensures.0 ∙ c.if-holds.true) c.list.ensures
 
 pub choice-list-requires-else-holds : goal.choice-list-requires-else-holds
 unfolding meaning.start start_seen Good meaning.activities
@@ -169,11 +169,11 @@ choice-list-requires-else-holds t c = let x = ch t (goal.at.choice-list-requires
 
 pub choice-returns-else-holds : goal.choice-returns-else-holds
 unfolding meaning.start start_seen Good meaning.activities
-choice-returns-else-holds t c = choice-false (ch t (goal.at.choice-returns-else-holds t c).After-kept-k) (record { word = c.args.word; inputs = c.args.inputs }) c.holds.ensures.1 (sym c.holds.ensures.0 ∙ c.if-holds.false) c.list-else-holds.ensures
+choice-returns-else-holds t c = choice-false (ch t (goal.at.choice-returns-else-holds t c).After-kept-k) (record { word = c.args.r.word; inputs = c.args.r.inputs }) c.holds.ensures.1 (sym c.holds.ensures.0 ∙ c.if-holds.false) c.list-else-holds.ensures
 
 pub list-returns-then-e-i : goal.list-returns-then-e-i
 unfolding meaning.start start_seen Good meaning.activities
-list-returns-then-e-i t c = list-none c.args.left c.args.t.now c.args.i c.args.e (record { word = c.args.word; inputs = c.args.inputs }) c.args.b c.args.o.now c.requires.1.1.1.long c.if-e-i.true
+list-returns-then-e-i t c = list-none c.args.left c.args.t.now c.args.i c.args.e (record { word = c.args.r.word; inputs = c.args.r.inputs }) c.args.b c.args.o.now c.requires.1.1.1.long c.if-e-i.true
 
 pub list-one-requires : goal.list-one-requires
 unfolding meaning.start start_seen Good meaning.activities
@@ -185,7 +185,7 @@ list-list-requires t c = let x = ls t (goal.at.list-list-requires t c).After-end
 
 pub list-returns-in-Finished : goal.list-returns-in-Finished
 unfolding meaning.start start_seen Good meaning.activities
-list-returns-in-Finished t c = comes_then c.one.ensures (list_then (ls t (goal.at.list-returns-in-Finished t c).After-end_at-m) (record { word = c.args.word; inputs = c.args.inputs })) c.in-Finished.is c.list.ensures
+list-returns-in-Finished t c = comes_then c.one.ensures (list_then (ls t (goal.at.list-returns-in-Finished t c).After-end_at-m) (record { word = c.args.r.word; inputs = c.args.r.inputs })) c.in-Finished.is c.list.ensures
 
 pub list-then_at-requires : goal.list-then_at-requires
 unfolding meaning.start start_seen Good meaning.activities
@@ -193,7 +193,7 @@ list-then_at-requires t c = omega (arith, some-list (list_at c.args.left c.args.
 
 pub list-returns-in_default : goal.list-returns-in_default
 unfolding meaning.start start_seen Good meaning.activities
-list-returns-in_default t c = comes_on c.one.ensures (list_then (ls t (goal.at.list-returns-in_default t c).After-end_at-m) (record { word = c.args.word; inputs = c.args.inputs })) (search rules) c.then_at.ensures
+list-returns-in_default t c = comes_on c.one.ensures (list_then (ls t (goal.at.list-returns-in_default t c).After-end_at-m) (record { word = c.args.r.word; inputs = c.args.r.inputs })) (search rules) c.then_at.ensures
 
 pub one-tried-requires : goal.one-tried-requires
 unfolding meaning.start start_seen Good meaning.activities
@@ -233,7 +233,7 @@ one-looped-requires t c = (omega arith, (omega (arith, while-wide (wh t (goal.at
 
 pub one-returns-then-holds : goal.one-returns-then-holds
 unfolding meaning.start start_seen Good meaning.activities
-one-returns-then-holds t c = while-true (wh t (goal.at.one-returns-then-holds t c).After-node_at-n c.in-While.is) (record { word = c.args.word; inputs = c.args.inputs }) c.holds.ensures.1 (sym c.holds.ensures.0 ∙ c.if-holds.true) c.list-h.ensures c.looped.ensures
+one-returns-then-holds t c = while-true (wh t (goal.at.one-returns-then-holds t c).After-node_at-n c.in-While.is) (record { word = c.args.r.word; inputs = c.args.r.inputs }) c.holds.ensures.1 (sym c.holds.ensures.0 ∙ c.if-holds.true) c.list-h.ensures c.looped.ensures
 
 pub one-list-h-requires-in-Loop : goal.one-list-h-requires-in-Loop
 unfolding meaning.start start_seen Good meaning.activities
@@ -263,7 +263,7 @@ one-returns-in-Delay t c = is_as t (goal.at.one-returns-in-Delay t c).After-node
 
 pub one-returns-in-Change : goal.one-returns-in-Change
 unfolding meaning.start start_seen Good meaning.activities
-one-returns-in-Change t c = is_as t (goal.at.one-returns-in-Change t c).After-node_at-n c.in-Change.is (c.change_bit.ensures c.args.b c.args.inputs)
+one-returns-in-Change t c = is_as t (goal.at.one-returns-in-Change t c).After-node_at-n c.in-Change.is (c.change_bit.ensures c.args.b c.args.r.inputs)
 
 pub one-returns-in-Assign : goal.one-returns-in-Assign
 unfolding meaning.start start_seen Good meaning.activities
@@ -275,11 +275,11 @@ one-returns-in-Choice t c = c.choice.ensures
 
 pub one-returns-else-holds : goal.one-returns-else-holds
 unfolding meaning.start start_seen Good meaning.activities
-one-returns-else-holds t c = while-false (wh t (goal.at.one-returns-else-holds t c).After-node_at-n c.in-While.is) (record { word = c.args.word; inputs = c.args.inputs }) c.holds.ensures.1 (sym c.holds.ensures.0 ∙ c.if-holds.false)
+one-returns-else-holds t c = while-false (wh t (goal.at.one-returns-else-holds t c).After-node_at-n c.in-While.is) (record { word = c.args.r.word; inputs = c.args.r.inputs }) c.holds.ensures.1 (sym c.holds.ensures.0 ∙ c.if-holds.false)
 
 pub one-returns-in-Loop : goal.one-returns-in-Loop
 unfolding meaning.start start_seen Good meaning.activities
-one-returns-in-Loop t c = loop_is (lo t (goal.at.one-returns-in-Loop t c).After-node_at-n c.in-Loop.is) (record { word = c.args.word; inputs = c.args.inputs }) c.list-h-in-Loop.ensures c.looped-in-Loop.ensures
+one-returns-in-Loop t c = loop_is (lo t (goal.at.one-returns-in-Loop t c).After-node_at-n c.in-Loop.is) (record { word = c.args.r.word; inputs = c.args.r.inputs }) c.list-h-in-Loop.ensures c.looped-in-Loop.ensures
 
 pub one-returns-in-Exit : goal.one-returns-in-Exit
 unfolding meaning.start start_seen Good meaning.activities
@@ -291,8 +291,8 @@ one-returns-in-Break t c = is_as t (goal.at.one-returns-in-Break t c).After-node
 
 pub one-returns-in-Switch : goal.one-returns-in-Switch
 unfolding meaning.start start_seen Good meaning.activities
-one-returns-in-Switch t c = switch_is (sw t (goal.at.one-returns-in-Switch t c).After-node_at-n c.in-Switch.is) (record { word = c.args.word; inputs = c.args.inputs }) c.cases.ensures c.caught.ensures
+one-returns-in-Switch t c = switch_is (sw t (goal.at.one-returns-in-Switch t c).After-node_at-n c.in-Switch.is) (record { word = c.args.r.word; inputs = c.args.r.inputs }) c.cases.ensures c.caught.ensures
 
 pub one-returns-in-Parallel : goal.one-returns-in-Parallel
 unfolding meaning.start start_seen Good meaning.activities
-one-returns-in-Parallel t c = parallel_is (pa t (goal.at.one-returns-in-Parallel t c).After-node_at-n c.in-Parallel.is) (record { word = c.args.word; inputs = c.args.inputs }) c.requires.1.1.1.1 c.branches.ensures c.caught-in-Parallel.ensures
+one-returns-in-Parallel t c = parallel_is (pa t (goal.at.one-returns-in-Parallel t c).After-node_at-n c.in-Parallel.is) (record { word = c.args.r.word; inputs = c.args.r.inputs }) c.requires.1.1.1.1 c.branches.ensures c.caught-in-Parallel.ensures
