@@ -154,12 +154,6 @@ beside_none (jumps out) b es ls ns e = absurd (let z : ◌≡◌ {A = ℕ} 0 1 =
 beside_none (jumps off) b es ls ns e = absurd (let z : ◌≡◌ {A = ℕ} 0 1 = cc in omega arith)
 beside_none (waits t a) b es ls ns e = refl
 
-jump_entries : (o : Outcome) (b : ℕ) (es : List Entry) → is_jump (embed o b es).how ≡ true → (embed o b es).entries ≡ es
-jump_entries finishes b es e = refl
-jump_entries (jumps j) b es e = refl
-jump_entries (waits t done) b es e = refl
-jump_entries (waits t (stands xs)) b es e = absurd (let z : ◌≡◌ {A = ℕ} 0 1 = cc in omega arith)
-
 jump_small : (x : How) {r : How} → is_jump x ≡ true → r ≡ x → is_waiting r ≡ true → ⊥
 jump_small Finished e q u = no_wait e
 jump_small Exit e q u = no_wait (rw q at u)
@@ -173,10 +167,6 @@ same_base {o} {ls} {b} {l} C base h = ap (wiped base) (C.holds.entries ∙ embed
 module _ {o : Outcome} {ls b : ℕ} {l k : Buffer} {r : How} (C : Comes o ls b l k r) {jump : Bool} (f : jump ≡ is_jump r) where
   jump_is : {t : Bool} → jump ≡ t → is_jump (embed o b l.entries).how ≡ t
   jump_is e = ap is_jump (sym C.holds.how) ∙ sym f ∙ e
-
-  -- a jump has put in no entry
-  pub jump_open : jump ≡ true → Open l b → Open k b
-  jump_open t O = record { long = C.holds.long; clear = rw (C.holds.entries ∙ jump_entries o b l.entries (jump_is t)) O.clear }
 
   module _ {base : ℕ} (before : base ≤ b) {whole bs : List Branch} {all w ns : ℕ} (B : Beside whole all w o ls bs ns) where
     pub joins_jump : {how : How} {ones zeros : ℕ} {j : Buffer} → jump ≡ true → Wiped base k j → Joins base how ones zeros b whole all l j r

@@ -30,9 +30,6 @@ use Rattle.runs.proofs.Comes.{Then, Beside, comes_as, comes_looked, comes_looped
 use Rattle.nodes.specs.Looks.{looks}
 use Rattle.nodes.specs.Good.{GoodTest, Good, GoodAll, GoodCases, GoodEach, first_number}
 
-some-fuel : {f n : ℕ} → 3 * n ≤ f → 0 < n → f ≡ 0 → ⊥
-some-fuel h k e = omega arith
-
 -- ---- lists
 
 pub record Listed (f : ℕ) (t : List ℕ) (i e m : ℕ) : Type 0 where

@@ -9,12 +9,12 @@ use lib.Dec.{ltb}
 use borrow.Author.Tests.{le-ltb}
 use lib.IntN.{ℤ, pos, negsuc, neg_ℤ, nat_abs, ◌+ℤ◌, +ℤ_assoc, +ℤ_idl}
 use lib.Pow.{pow_pos, le_ones, pow_mono}
-use lib.Signed.{mag, lt_z}
+use lib.Signed.{mag}
 use mir.Syntax.{w64}
 use mir.Val.{of_z, to_z}
 use mir.ValLaws.{to_z-of_z}
 use Rattle.meaning.specs.Tree.{Arithmetic, plus, minus, times, quotient, remainder, Comparison, equal, unequal, greater, less, Logic, and, or, Expr, literal, truth, variable, bit, not, int, arithmetic, comparison, logic}
-use Rattle.meaning.specs.Numbers.{Variable, input, boolean, integer, Reads, Value, whole, bool, over, rest, is_one, whole_of, bool_of, same_whole, compute, compare, combine, as_number, read, read_bit, value}
+use Rattle.meaning.specs.Numbers.{Variable, input, boolean, integer, Reads, Value, whole, bool, over, rest, whole_of, bool_of, compute, compare, combine, as_number, read, read_bit, value}
 use Rattle.meaning.specs.Worst.{combined}
 use Rattle.ints.proofs.Laws.{abs_sum, abs_diff, abs_prod, abs_quot, abs_rem}
 use Rattle.nodes.specs.Layout.{half_at, part_base, kind_of, kind_at}
@@ -33,11 +33,6 @@ use Rattle.value.specs.Row.{adds, signed, term_of}
 -- a number that an i64 holds, read back from its bits
 pub through : (z : ℤ) → mag z < 9223372036854775808 → to_z w64 (of_z w64 z) ≡ z
 through z h = to_z-of_z w64 z (record { sfits = h })
-
-pub bit-number : (d : ℕ) → d < 2 → pos d ≡ as_number (is_one d)
-bit-number zero h = refl
-bit-number (suc zero) h = refl
-bit-number (suc (suc d)) h = absurd (omega arith)
 
 pub one_shifted : (w : ℕ) → w ≤ 16 → 1 * 2 ^ w % 4294967296 ≡ 2 ^ w
 one_shifted w h = ap (λ (x : ℕ). x % 4294967296) (one-mul (2 ^ w)) ∙ mod-eq_of_lt (omega (arith, pow_mono {i = w} {j = 16} h))
@@ -226,20 +221,6 @@ pub logic-second : (o : Logic) (p : ℕ) (a b : Expr Variable) (r : Reads) {x y 
     → x ≡ flat (value a r) → decides o x ≡ false → y ≡ flat (value b r) → y ≡ flat (value (logic o p a b) r)
 unfolding value
 logic-second o p a b r k l e d f = (f ∙ truth-flat b r l) ∙ second-decides o _ _ (rw (e ∙ truth-flat a r k) at d)
-
-pub truth-some : (x : ℤ) → (of_z w64 x ≡ 0 → ⊥) → truth_of x ≡ true
-truth-some (pos zero) h = absurd (h refl)
-truth-some (pos (suc n)) h = refl
-truth-some (negsuc n) h = refl
-
-pub same_less : (a b : ℤ) → lt_z a b ≡ true → false ≡ same_whole a b
-same_less a b h = rw h
-
-pub same_more : (a b : ℤ) → lt_z a b ≡ false → opposite (lt_z b a) ≡ same_whole a b
-same_more a b h = rw h
-
-pub less_of : {x y a b : ℤ} {r : Bool} → r ≡ lt_z x y → x ≡ a → y ≡ b → r ≡ lt_z a b
-less_of e p q = rw (← p, ← q) e
 
 -- ---- leaves
 

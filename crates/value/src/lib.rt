@@ -2,7 +2,7 @@
 #![tactic(auto)]
 
 ghost use Rattle.std.specs.Prelude.{◌≡◌, ℕ, ◌+◌, ◌<◌, ◌≤◌, ◌^◌, ◌/◌, ◌%◌, true, not as opposite, ℤ, pos, nat_abs, ◌+ℤ◌};
-ghost use Rattle.meaning.specs.Numbers.{bit_of, as_number, same_whole, compute, value};
+ghost use Rattle.meaning.specs.Numbers.{bit_of, as_number, compute, value};
 ghost use Rattle.meaning.specs.Worst.{combined};
 ghost use Rattle.nodes.specs.Layout.{kind_at};
 ghost use Rattle.nodes.specs.Decode.{sum, test, link, expr_at};
@@ -21,12 +21,6 @@ pub struct Reads {
     pub inputs: u32,
 }
 
-pub fn flag(b: bool) -> i64
-    ensures { result ≡ as_number b }
-{
-    i64::from(b)
-}
-
 pub fn truth(x: i64) -> bool
     ensures { result ≡ truth_of x }
 {
@@ -36,7 +30,7 @@ pub fn truth(x: i64) -> bool
 fn flipped(x: i64) -> i64
     ensures { result ≡ as_number (opposite (truth_of x)) }
 {
-    flag(!truth(x))
+    i64::from(!truth(x))
 }
 
 fn bit_of(n: u32, j: u16) -> i64
@@ -84,20 +78,14 @@ fn with_sign(o: Sum, y: i64) -> i64
     }
 }
 
-fn same(a: i64, b: i64) -> bool
-    ensures { result ≡ same_whole a b }
-{
-    a == b
-}
-
 fn compared(o: Test, a: i64, b: i64) -> i64
     ensures { result ≡ as_number (compare_z (test o) a b) }
 {
     match o {
-        Test::Equal => flag(same(a, b)),
-        Test::Unequal => flag(!same(a, b)),
-        Test::Greater => flag(ints::below(b, a)),
-        Test::Less => flag(ints::below(a, b)),
+        Test::Equal => i64::from(a == b),
+        Test::Unequal => i64::from(a != b),
+        Test::Greater => i64::from(a > b),
+        Test::Less => i64::from(a < b),
     }
 }
 
@@ -122,7 +110,7 @@ fn leaf(t: &Tree, r: Reads, j: u16) -> i64
 {
     match nodes::part_at(t, j).kind {
         Kind::Literal(v) => i64::from(v),
-        Kind::Truth(b) => flag(b),
+        Kind::Truth(b) => i64::from(b),
         Kind::Input(i) => bit_of(r.inputs, i),
         Kind::Boolean(i) => bit_of(r.word, i),
         Kind::Integer(low, width) => field_of(r.word, low, width),

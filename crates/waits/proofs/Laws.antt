@@ -1,6 +1,5 @@
 -- Bits of a word, as they are shifted and masked.
 use mathlib.Core.Path.{◌≡◌, refl, ap, ◌∙◌}
-use mathlib.Core.Bool.{Bool, true, false, not as opposite}
 use Prim.Native.Nat.{ℕ, zero, suc, ◌+◌, ◌-◌, ◌*◌, ◌%◌, ◌≤◌, ◌<◌, ◌^◌}
 use native.Mathlib.Nat.{mod-lt, mod-eq_of_lt, one-mul, lt_of_lt_of_le}
 use native.Mathlib.Numerals.{sub-one}
@@ -8,23 +7,15 @@ use native.Mathlib.Omega.{arith}
 use lib.Bits.{bit_and, and_mask, mask_lt}
 use lib.ListN.{length, set}
 use lib.Pow.{pow_pos, pow_mono, shl_lt, le_ones}
-use Rattle.meaning.specs.Tree.{Head, invert}
-use Rattle.meaning.specs.Tries.{Tries, no_tries, bit_at, try_bits, changed}
+use Rattle.meaning.specs.Tree.{Head}
+use Rattle.meaning.specs.Tries.{Tries, no_tries, try_bits}
 use Rattle.meaning.specs.Clock.{waits, done, at, delayed}
-use Rattle.nodes.specs.Decode.{target_by}
 use Rattle.runs.specs.declared.Buffer.{Buffer}
 use Rattle.runs.specs.declared.How.{How}
 use Rattle.runs.specs.declared.How.TheVariants.{Finished, Stands}
 use Rattle.runs.specs.Run.{entry_of, put}
 use Rattle.runs.specs.Buffer.{Comes}
 use Rattle.runs.proofs.Steps.{finishes_now, put_now}
-
-pub bit-whole : (w low index : ℕ) → w ≡ 0 → low ≡ bit_at (target_by w low index)
-bit-whole w low index e = rw e
-
-pub bit-part : (w low index : ℕ) → (w ≡ 0 → ⊥) → low + index ≡ bit_at (target_by w low index)
-bit-part zero low index h = absurd (h refl)
-bit-part (suc w) low index h = refl
 
 pub shifted : (x low width : ℕ) → low + width ≤ 32 → x < 2 ^ width → x * 2 ^ low % 4294967296 ≡ x * 2 ^ low
 shifted x low width h k = mod-eq_of_lt (lt_of_lt_of_le (shl_lt width low k) (pow_mono {i = width + low} {j = 32} (omega arith)))
@@ -54,10 +45,6 @@ delay-some zero h p q C = absurd (p refl)
 delay-some (suc zero) h p q C = absurd (q refl)
 delay-some (suc (suc n)) h {b} {l} {k} {r} p q C =
     record { holds = rw sub-one (put_now b h.number (suc n) C.holds (rw C.holds.how)) }
-
-pub flips : (b : Bool) → opposite b ≡ changed invert b
-flips true = refl
-flips false = refl
 
 lowered : (w x : ℕ) → 2 ^ w - 1 - x % 2 ^ w < 2 ^ w
 lowered w x = omega (arith, pow_pos w)
