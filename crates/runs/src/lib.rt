@@ -7,6 +7,7 @@ ghost use Rattle.runs.specs.Run.{Run, entry_of, entry_from, window, least_from, 
 ghost use Rattle.runs.specs.Buffer.{gathers, Holds, Comes, Looked, Wiped};
 
 // Where an activity stands: the number of a statement or case test plus 1, or 0, and the clocks left of a delay.
+// rows and index store these two fields as they stand, so nowhere is a place of 0 and no Option.
 #[derive(Clone, Copy)]
 pub struct Entry {
     pub place: u16,

@@ -11,6 +11,8 @@ ghost use Rattle.value.specs.Read.{reads};
 ghost use Rattle.runs.specs.Buffer.{Open, Comes, Joins};
 ghost use Rattle.runs.specs.Seen.{start_seen, start_all_seen, start_cases_seen, start_each_seen};
 
+// The calls go down a tree and count no index: each contract says what the definition of that part says, and a loop would
+// repeat it as its invariant.
 use nodes::{Among, Tree, What};
 use runs::{Buffer, How};
 use value::Reads;

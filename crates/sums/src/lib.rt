@@ -31,6 +31,7 @@ fn exact(t: &Tree, r: Reads, j: u16, left: u16) -> u32
 }
 
 // x and the part j: a row of `+` and `-` is added up from its end, with no call for each.
+// The calls go down a tree and count no index, as in value::row.
 #[cycle(added_operand)]
 fn added(t: &Tree, r: Reads, j: u16, left: u16, x: u32) -> u32
     requires { RightSide (expr_at left t.now j) }

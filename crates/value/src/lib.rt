@@ -162,6 +162,7 @@ pub fn operand(t: &Tree, r: Reads, j: u16, left: u16) -> i64
 }
 
 // The value of j and x: a row of `+` and `-` is added up from its end, with no call for each.
+// The calls go down a tree and count no index: a loop would need the contract of each call again as its invariant.
 #[cycle(operand_row_value)]
 fn row(t: &Tree, r: Reads, j: u16, left: u16, x: i64) -> i64
     requires { Fit (expr_at left t.now j) × ((is_whole (expr_at left t.now j) ≡ true) × (size_of (expr_at left t.now j) + nat_abs x < 2147483648)) }
