@@ -55,6 +55,7 @@ pub fn step(t: &Tree, n: u16, left: u16, s: State, input: u32) -> Clocked
     ensures { Clocks t.now n left s input result }
 {
     let old = &s.entries;
+    // As a bound that no statement reaches u16::MAX needs no case of its own, and an Option would.
     let m = runs::least_at(old, 0, 8, 0, u16::MAX);
     let mut o = Buffer::BLANK;
     let r = Reads {

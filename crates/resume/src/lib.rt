@@ -13,6 +13,7 @@ ghost use Rattle.runs.specs.Buffer.{Open, Comes, Joins};
 ghost use Rattle.runs.specs.Seen.{resume_seen, resume_all_seen, resume_cases_seen, resume_each_seen};
 ghost use Rattle.resume.specs.Stand.{head_shape, resumed_as, Stand};
 
+// The calls go down a tree and count no index, as in start.
 use nodes::{Among, Shape, Tree};
 use runs::{Buffer, Entry, How};
 use value::Reads;
@@ -172,6 +173,7 @@ fn branches(
     let less = left - 1;
     let k = nodes::branch_end_at(t, i, e);
     let wide = u16::from(nodes::width_at(t, i));
+    // As a bound that no statement reaches u16::MAX needs no case of its own, and an Option would.
     let m = runs::least_at(old, b, wide, i, u16::MAX);
     let h = list(t, r, i, k, less, b, wide, m, old, o);
     if h.is_jump() {
