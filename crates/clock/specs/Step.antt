@@ -1,14 +1,15 @@
 -- A state as the code has it, and what a clock and the start promise.
 -- Assumes nothing.
-use Rattle.std.specs.Prelude.{◌≡◌, ℕ, ◌*◌, ◌<◌, ◌≤◌, cond, List, map, ltb, replicate}
+use Rattle.std.specs.Prelude.{◌≡◌, ℕ, ◌*◌, ◌<◌, ◌≤◌, cond, List, map, replicate}
 use Rattle.std.specs.Int.Bits.{bit_or, bit_and}
 use Rattle.meaning.specs.Tries.{without}
 use Rattle.meaning.specs.States.{Program, start_state, step_state}
 use Rattle.meaning.specs.States as meaning
 use Rattle.nodes.specs.Decode.{list_at}
 use Rattle.runs.specs.declared.Entry.{Entry}
-use Rattle.runs.specs.Run.{empty, entry_of, window}
-use Rattle.runs.specs.Buffer.{entries_in, ones_in, zeros_in}
+use Rattle.runs.specs.declared.Buffer.{Buffer}
+use Rattle.runs.specs.declared.How.{How}
+use Rattle.runs.specs.Run.{empty, entry_of, window, is_waiting}
 use Rattle.clock.specs.declared.State.{State}
 use Rattle.clock.specs.declared.Clocked.{Clocked}
 
@@ -29,8 +30,8 @@ abbrev pub Canon : State → Type 0
 Canon s = state_of (state_from s) ≡ s
 
 -- the state after a clock that ended as h, with the buffer l
-abbrev pub settled_in : List ℕ → ℕ → ℕ → State
-settled_in l h word = record { entries = entries_in l; word = cond (ltb h 3) word (without (bit_or word (ones_in l)) (zeros_in l)) }
+abbrev pub settled_in : Buffer → How → ℕ → State
+settled_in l h word = record { entries = l.entries; word = cond (is_waiting h) (without (bit_or word l.ones) l.zeros) word }
 
 -- r is the first state of each program that the n statements and case tests from 0 on are, where a tree holds them
 pub record Starts (n word : ℕ) (r : State) : Type 0 where

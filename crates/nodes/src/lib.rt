@@ -9,6 +9,8 @@
 ghost use Rattle.std.specs.Prelude.{◌≡◌, ℕ, ◌+◌, ◌*◌, ◌<◌, ◌≤◌, get_or};
 ghost use Rattle.nodes.specs.Layout.{half_at, node_base, part_base, sum_of, test_of, link_of, kind_of, kind_at, what_of, what_at, among_of, shape_of, width_at, looks_at, within, end_at, branch_end_at};
 
+pub type Tree = [u8; 16384];
+
 #[derive(Clone, Copy)]
 pub enum Sum {
     Plus,
@@ -109,51 +111,53 @@ pub struct Node {
     pub what: What,
 }
 
-fn wide(x: u8) -> u16
-    ensures { (result ≡ x) × (result < 256) }
-{
-    x as u16
-}
-
-pub fn half_at(t: &[u8; 16384], o: usize) -> u16
+#[tactic(auto, unfolding(crate::specs::Layout::half_at))]
+pub fn half_at(t: &Tree, o: usize) -> u16
     requires { o < 16383 }
     ensures { result ≡ half_at t.now o }
 {
-    wide(t[o]) + wide(t[o + 1]) * 256
+    u16::from_le_bytes([t[o], t[o + 1]])
 }
 
-pub fn sum_of(n: u8) -> Sum
-    ensures { result ≡ sum_of n }
-{
-    match n {
-        0 => Sum::Plus,
-        1 => Sum::Minus,
-        2 => Sum::Times,
-        3 => Sum::Quotient,
-        _ => Sum::Remainder,
+impl From<u8> for Sum {
+    ghost from_gives = { λ n x. x ≡ sum_of n };
+
+    fn from(n: u8) -> Sum {
+        match n {
+            0 => Sum::Plus,
+            1 => Sum::Minus,
+            2 => Sum::Times,
+            3 => Sum::Quotient,
+            _ => Sum::Remainder,
+        }
     }
 }
 
-pub fn test_of(n: u8) -> Test
-    ensures { result ≡ test_of n }
-{
-    match n {
-        0 => Test::Equal,
-        1 => Test::Unequal,
-        2 => Test::Greater,
-        _ => Test::Less,
+impl From<u8> for Test {
+    ghost from_gives = { λ n x. x ≡ test_of n };
+
+    fn from(n: u8) -> Test {
+        match n {
+            0 => Test::Equal,
+            1 => Test::Unequal,
+            2 => Test::Greater,
+            _ => Test::Less,
+        }
     }
 }
 
-pub fn link_of(n: u8) -> Link
-    ensures { result ≡ link_of n }
-{
-    match n {
-        0 => Link::And,
-        _ => Link::Or,
+impl From<u8> for Link {
+    ghost from_gives = { λ n x. x ≡ link_of n };
+
+    fn from(n: u8) -> Link {
+        match n {
+            0 => Link::And,
+            _ => Link::Or,
+        }
     }
 }
 
+#[tactic(auto, unfolding(crate::specs::Layout::kind_of))]
 pub fn kind_of(tag: u8, c: u8, a: u16, b: u16) -> Kind
     ensures { result ≡ kind_of tag c a b }
 {
@@ -163,27 +167,26 @@ pub fn kind_of(tag: u8, c: u8, a: u16, b: u16) -> Kind
         2 => Kind::Truth(true),
         3 => Kind::Input(a),
         4 => Kind::Boolean(a),
-        5 => Kind::Integer(a, c as u16),
-        6 => Kind::Bit(a, c as u16, b),
+        5 => Kind::Integer(a, u16::from(c)),
+        6 => Kind::Bit(a, u16::from(c), b),
         7 => Kind::Not(a),
         8 => Kind::Int(a),
-        9 => Kind::Arithmetic(sum_of(c), a, b),
-        10 => Kind::Comparison(test_of(c), a, b),
-        _ => Kind::Logic(link_of(c), a, b),
+        9 => Kind::Arithmetic(Sum::from(c), a, b),
+        10 => Kind::Comparison(Test::from(c), a, b),
+        _ => Kind::Logic(Link::from(c), a, b),
     }
 }
 
-pub fn part_at(t: &[u8; 16384], j: u16) -> Part
+#[tactic(auto, unfolding(crate::specs::Layout::kind_at))]
+pub fn part_at(t: &Tree, j: u16) -> Part
     ensures { result ≡ record { place = half_at t.now (part_base j + 2); kind = kind_at t.now j } }
 {
     let base = 8192 + j as usize % 1024 * 8;
     let place = half_at(t, base + 2);
     let a = half_at(t, base + 4);
     let b = half_at(t, base + 6);
-    Part {
-        place: place,
-        kind: kind_of(t[base], t[base + 1], a, b),
-    }
+    let kind = kind_of(t[base], t[base + 1], a, b);
+    Part { place, kind }
 }
 
 fn bits_at(low: u16, width: u16, index: u16) -> Target
@@ -192,6 +195,7 @@ fn bits_at(low: u16, width: u16, index: u16) -> Target
     Target { low, width, index }
 }
 
+#[tactic(auto, unfolding(crate::specs::Layout::what_of))]
 pub fn what_of(tag: u8, a: u16, b: u16, c: u16, d: u16) -> What
     ensures { result ≡ what_of tag a b c d }
 {
@@ -213,7 +217,8 @@ pub fn what_of(tag: u8, a: u16, b: u16, c: u16, d: u16) -> What
     }
 }
 
-pub fn node_at(t: &[u8; 16384], i: u16) -> Node
+#[tactic(auto, unfolding(crate::specs::Layout::what_at))]
+pub fn node_at(t: &Tree, i: u16) -> Node
     ensures { result ≡ record { place = half_at t.now (node_base i + 2); what = what_at t.now i } }
 {
     let base = i as usize % 512 * 16;
@@ -222,28 +227,16 @@ pub fn node_at(t: &[u8; 16384], i: u16) -> Node
     let b = half_at(t, base + 10);
     let c = half_at(t, base + 12);
     let d = half_at(t, base + 14);
-    Node {
-        place: place,
-        what: what_of(t[base], a, b, c, d),
-    }
+    let what = what_of(t[base], a, b, c, d);
+    Node { place, what }
 }
 
 fn among_of(w: What) -> Among
     ensures { result ≡ among_of w }
 {
     match w {
-        What::Skip => Among::Default,
-        What::Delay(_, _) => Among::Default,
-        What::Change(_, _) => Among::Default,
-        What::Assign(_, _) => Among::Default,
-        What::Choice(_, _) => Among::Default,
-        What::While(_) => Among::Default,
-        What::Loop => Among::Default,
-        What::Exit => Among::Default,
-        What::Break => Among::Default,
-        What::Switch => Among::Default,
-        What::Parallel => Among::Default,
         What::Case(x, m) => Among::Test(x, m),
+        _ => Among::Default,
     }
 }
 
@@ -251,67 +244,55 @@ fn shape_of(w: What) -> Shape
     ensures { result ≡ shape_of w }
 {
     match w {
-        What::Skip => Shape::Plain,
         What::Delay(_, n) => Shape::Waiting(n),
-        What::Change(_, _) => Shape::Plain,
-        What::Assign(_, _) => Shape::Plain,
         What::Choice(_, m) => Shape::Either(m),
-        What::While(_) => Shape::Repeat,
-        What::Loop => Shape::Repeat,
-        What::Exit => Shape::Plain,
-        What::Break => Shape::Plain,
+        What::While(_) | What::Loop => Shape::Repeat,
         What::Switch => Shape::Tests,
         What::Parallel => Shape::Together,
-        What::Case(_, _) => Shape::Plain,
+        _ => Shape::Plain,
     }
 }
 
-pub fn shape_at(t: &[u8; 16384], i: u16) -> Shape
+pub fn shape_at(t: &Tree, i: u16) -> Shape
     ensures { result ≡ shape_of (what_at t.now i) }
 {
-    let n = node_at(t, i);
-    let w = n.what;
-    shape_of(w)
+    shape_of(node_at(t, i).what)
 }
 
-pub fn among_at(t: &[u8; 16384], i: u16) -> Among
+pub fn among_at(t: &Tree, i: u16) -> Among
     ensures { result ≡ among_of (what_at t.now i) }
 {
-    let n = node_at(t, i);
-    let w = n.what;
-    among_of(w)
+    among_of(node_at(t, i).what)
 }
 
 // How many activities the branch has that begins here.
-pub fn width_at(t: &[u8; 16384], i: u16) -> u8
+#[tactic(auto, unfolding(crate::specs::Layout::width_at))]
+pub fn width_at(t: &Tree, i: u16) -> u8
     ensures { result ≡ width_at t.now i }
 {
     t[i as usize % 512 * 16 + 1]
 }
 
 // The input bits that the statement's own expression reads.
-pub fn looks_at(t: &[u8; 16384], i: u16) -> u8
+#[tactic(auto, unfolding(crate::specs::Layout::looks_at))]
+pub fn looks_at(t: &Tree, i: u16) -> u8
     ensures { result ≡ looks_at t.now i }
 {
     t[i as usize % 512 * 16 + 12]
 }
 
 // A number after i and not past e.
+#[tactic(auto, unfolding(crate::specs::Layout::within))]
 pub fn kept(m: u16, i: u16, e: u16) -> u16
     requires { i < e }
     ensures { result ≡ within m i e }
 {
-    if m <= i {
-        return i + 1;
-    }
-    if e < m {
-        return e;
-    }
-    m
+    m.clamp(i + 1, e)
 }
 
 // Where the statement i ends, in a list that ends at e.
-pub fn end_at(t: &[u8; 16384], i: u16, e: u16) -> u16
+#[tactic(auto, unfolding(crate::specs::Layout::end_at))]
+pub fn end_at(t: &Tree, i: u16, e: u16) -> u16
     requires { i < e }
     ensures { result ≡ end_at t.now i e }
 {
@@ -319,7 +300,8 @@ pub fn end_at(t: &[u8; 16384], i: u16, e: u16) -> u16
 }
 
 // Where the branch ends that begins at i.
-pub fn branch_end_at(t: &[u8; 16384], i: u16, e: u16) -> u16
+#[tactic(auto, unfolding(crate::specs::Layout::branch_end_at))]
+pub fn branch_end_at(t: &Tree, i: u16, e: u16) -> u16
     requires { i < e }
     ensures { result ≡ branch_end_at t.now i e }
 {

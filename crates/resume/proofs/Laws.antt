@@ -21,11 +21,15 @@ use Rattle.nodes.specs.declared.Shape.TheVariants.{Plain, Waiting, Either, Repea
 use Rattle.nodes.specs.declared.What.{What}
 use Rattle.nodes.specs.declared.What.TheVariants.{Skip, Delay, Change, Assign, Choice, While, Loop, Exit, Break, Switch, Parallel, Case}
 use Rattle.nodes.proofs.Laws.{within_more, within-most, stmt_opened, branches_over}
+use Rattle.runs.specs.declared.Buffer.{Buffer}
+use Rattle.runs.specs.declared.Entry.{Entry}
+use Rattle.runs.specs.declared.How.{How}
+use Rattle.runs.specs.declared.How.TheVariants.{Finished}
 use Rattle.runs.specs.Run.{Run, window, caught_run}
-use Rattle.runs.specs.Buffer.{entries_in, Holds, Comes, Open, Joins}
+use Rattle.runs.specs.Buffer.{Holds, Comes, Open, Joins}
 use Rattle.runs.specs.Seen.{then_seen, start_seen, start_all_seen, start_cases_seen, resume_seen, resume_all_seen, resume_cases_seen, resume_each_seen}
 use Rattle.runs.proofs.Join.{Placed}
-use Rattle.runs.proofs.Buffer.{finishes_now}
+use Rattle.runs.proofs.Steps.{finishes_now}
 use Rattle.runs.proofs.Comes.{Then, Again, Beside, comes_as, comes_caught, next_open, joins-all}
 use Rattle.start.proofs.Laws.{Listed, first-list, Tested, Defaulted, first_cases, Branched}
 use Rattle.nodes.specs.Good.{Good, GoodAll, GoodCases, GoodEach}
@@ -35,22 +39,22 @@ use Rattle.resume.proofs.Inside.{leaf-end, inside-list, inside_stmt}
 
 -- ---- where the activities stand
 
-pub from : {t old o : List ℕ} {b w i m n : ℕ} → Stand t old o b w i m n → i ≤ 65535 → i ≤ m
-from {t} {old} {o} {b} {w} {i} S u = rw S.is_least (least_ge (window (entries_in old) b w) i u)
+pub from : {t : List ℕ} {old : List Entry} {o : Buffer} {b w i m n : ℕ} → Stand t old o b w i m n → i ≤ 65535 → i ≤ m
+from {t} {old} {o} {b} {w} {i} S u = rw S.is_least (least_ge (window old b w) i u)
 
-module _ {t old o : List ℕ} {b w i m n : ℕ} (S : Stand t old o b w i m n) (small : i < 65535) where
-  pub at_head : m ≡ i → some_at i (window (entries_in old) b w) ≡ true
-  at_head e = some_at_lem (window (entries_in old) b w) i m small S.is_least ∙ eq-eqb m i e
+module _ {t : List ℕ} {old : List Entry} {o : Buffer} {b w i m n : ℕ} (S : Stand t old o b w i m n) (small : i < 65535) where
+  pub at_head : m ≡ i → some_at i (window old b w) ≡ true
+  at_head e = some_at_lem (window old b w) i m small S.is_least ∙ eq-eqb m i e
 
-  pub not_head : (m ≡ i → ⊥) → some_at i (window (entries_in old) b w) ≡ false
-  not_head e = some_at_lem (window (entries_in old) b w) i m small S.is_least ∙ ne_eqb m i e
+  pub not_head : (m ≡ i → ⊥) → some_at i (window old b w) ≡ false
+  not_head e = some_at_lem (window old b w) i m small S.is_least ∙ ne_eqb m i e
 
   -- in the parts of the statement i
   pub deeper : (m ≡ i → ⊥) → (k : ℕ) → k ≤ w → Stand t old o b w (i + 1) m k
-  deeper e k h = record { leaves = S.leaves; room = S.room; wide = h; kept = S.kept; free = S.free; is_least = S.is_least ∙ sym (least-next (window (entries_in old) b w) i (not_head e)) }
+  deeper e k h = record { leaves = S.leaves; room = S.room; wide = h; kept = S.kept; free = S.free; is_least = S.is_least ∙ sym (least-next (window old b w) i (not_head e)) }
 
   pub further : (j : ℕ) → i ≤ j → j ≤ m → (k : ℕ) → k ≤ w → Stand t old o b w j m k
-  further j h l k u = record { leaves = S.leaves; room = S.room; wide = u; kept = S.kept; free = S.free; is_least = S.is_least ∙ sym (least_skip (window (entries_in old) b w) i j h (rw (← S.is_least) l)) }
+  further j h l k u = record { leaves = S.leaves; room = S.room; wide = u; kept = S.kept; free = S.free; is_least = S.is_least ∙ sym (least_skip (window old b w) i j h (rw (← S.is_least) l)) }
 
   pub fewer : (k : ℕ) → k ≤ w → Stand t old o b w i m k
   fewer k h = record { leaves = S.leaves; room = S.room; wide = h; kept = S.kept; free = S.free; is_least = S.is_least }
@@ -71,16 +75,16 @@ unfolding inside resume_seen
 none_seen end ws r e = refl
 none_seen (s ⨾ ss) ws r e = outside-step (inside s ws) (inside_all ss ws) _ _ 0 e (none_seen ss ws r)
 
-pub list-outside : (f : ℕ) (t : List ℕ) (i e : ℕ) (r : Reads) {old o : List ℕ} {b w m n : ℕ} → Stand t old o b w i m n → i ≤ 65535 → e ≤ 65535 → 3 * (e - i) ≤ f → e ≤ m
-    → Comes (resume_all (list_at f t i e) (window (entries_in old) b w) r) (resume_all_seen (list_at f t i e) (window (entries_in old) b w) r) b o o 0
+pub list-outside : (f : ℕ) (t : List ℕ) (i e : ℕ) (r : Reads) {old : List Entry} {o : Buffer} {b w m n : ℕ} → Stand t old o b w i m n → i ≤ 65535 → e ≤ 65535 → 3 * (e - i) ≤ f → e ≤ m
+    → Comes (resume_all (list_at f t i e) (window old b w) r) (resume_all_seen (list_at f t i e) (window old b w) r) b o o Finished
 list-outside f t i e r {old} {o} {b} {w} {m} S u s k h =
-    let out : inside_all (list_at f t i e) (window (entries_in old) b w) ≡ false = inside-list t S.leaves (window (entries_in old) b w) f i e s u k ∙ rw (← S.is_least) (le-ltb m e h) in
-    comes_as (all-outside (list_at f t i e) (window (entries_in old) b w) r out) (none_seen (list_at f t i e) (window (entries_in old) b w) r out) (finishes_now o b S.free.long)
+    let out : inside_all (list_at f t i e) (window old b w) ≡ false = inside-list t S.leaves (window old b w) f i e s u k ∙ rw (← S.is_least) (le-ltb m e h) in
+    comes_as (all-outside (list_at f t i e) (window old b w) r out) (none_seen (list_at f t i e) (window old b w) r out) (finishes_now o b S.free.long)
 
 module _ {f : ℕ} {t : List ℕ} {i e k : ℕ} (L : Listed f t i e k) (q : k ≡ end_at t i e) (s : e ≤ 65535)
-    {old o : List ℕ} {b w m n : ℕ} (S : Stand t old o b w i m n) (r : Reads) where
+    {old : List Entry} {o : Buffer} {b w m n : ℕ} (S : Stand t old o b w i m n) (r : Reads) where
   abbrev W : List clock.Entry
-  W = window (entries_in old) b w
+  W = window old b w
 
   inside-first : inside (stmt_at (f - 1) t i k) W ≡ ltb m k
   inside-first =
@@ -100,26 +104,26 @@ module _ {f : ℕ} {t : List ℕ} {i e k : ℕ} (L : Listed f t i e k) (q : k �
         seen = rw (L.opened, inside-first, lt-ltb m k h);
       }
 
-  pub list-later : {l j : List ℕ} {g : ℕ} → k ≤ m → Comes (resume_all (list_at (f - 1) t k e) W r) (resume_all_seen (list_at (f - 1) t k e) W r) b l j g → Comes (resume_all (list_at f t i e) W r) (resume_all_seen (list_at f t i e) W r) b l j g
+  pub list-later : {l j : Buffer} {g : How} → k ≤ m → Comes (resume_all (list_at (f - 1) t k e) W r) (resume_all_seen (list_at (f - 1) t k e) W r) b l j g → Comes (resume_all (list_at f t i e) W r) (resume_all_seen (list_at f t i e) W r) b l j g
   unfolding resume resume_seen
   list-later h C = comes_as (rw (L.opened, inside-first, le-ltb m k h)) (rw (L.opened, inside-first, le-ltb m k h)) C
 
 -- ---- cases
 
-pub default_is : {f : ℕ} {t : List ℕ} {i e : ℕ} → Defaulted f t i e → (ws : List clock.Entry) (r : Reads) {b g : ℕ} {l k : List ℕ}
+pub default_is : {f : ℕ} {t : List ℕ} {i e : ℕ} → Defaulted f t i e → (ws : List clock.Entry) (r : Reads) {b : ℕ} {g : How} {l k : Buffer}
     → Comes (resume_all (list_at (f - 1) t i e) ws r) (resume_all_seen (list_at (f - 1) t i e) ws r) b l k g → Comes (resume_cases (cases_at f t i e) ws r) (resume_cases_seen (cases_at f t i e) ws r) b l k g
 unfolding resume resume_seen
 default_is D ws r C = comes_as (rw D.opened) (rw D.opened) C
 
 module _ {f : ℕ} {t : List ℕ} {i e x k : ℕ} (T : Tested f t i e x k) (s : e ≤ 65535)
-    {old o : List ℕ} {b w m n : ℕ} (S : Stand t old o b w i m n) (r : Reads) where
+    {old : List Entry} {o : Buffer} {b w m n : ℕ} (S : Stand t old o b w i m n) (r : Reads) where
   abbrev Ws : List clock.Entry
-  Ws = window (entries_in old) b w
+  Ws = window old b w
 
   small_i : i < 65535
   small_i = let a : i < k = T.more in let c : k ≤ e = T.most in omega arith
 
-  pub case-head : {l j : List ℕ} {g : ℕ} → m ≡ i → Comes (start_cases (cases_at f t i e) r) (start_cases_seen (cases_at f t i e) r) b l j g → Comes (resume_cases (cases_at f t i e) Ws r) (resume_cases_seen (cases_at f t i e) Ws r) b l j g
+  pub case-head : {l j : Buffer} {g : How} → m ≡ i → Comes (start_cases (cases_at f t i e) r) (start_cases_seen (cases_at f t i e) r) b l j g → Comes (resume_cases (cases_at f t i e) Ws r) (resume_cases_seen (cases_at f t i e) Ws r) b l j g
   unfolding resume resume_seen
   case-head h C = comes_as (rw (T.opened, at_head S small_i h)) (rw (T.opened, at_head S small_i h)) C
 
@@ -141,31 +145,31 @@ module _ {f : ℕ} {t : List ℕ} {i e x k : ℕ} (T : Tested f t i e x k) (s : 
         seen = rw (T.opened, not_head S small_i h, in_body h, lt-ltb m k l);
       }
 
-  pub case-later : {l j : List ℕ} {g : ℕ} → (m ≡ i → ⊥) → k ≤ m → Comes (resume_cases (cases_at (f - 1) t k e) Ws r) (resume_cases_seen (cases_at (f - 1) t k e) Ws r) b l j g
+  pub case-later : {l j : Buffer} {g : How} → (m ≡ i → ⊥) → k ≤ m → Comes (resume_cases (cases_at (f - 1) t k e) Ws r) (resume_cases_seen (cases_at (f - 1) t k e) Ws r) b l j g
       → Comes (resume_cases (cases_at f t i e) Ws r) (resume_cases_seen (cases_at f t i e) Ws r) b l j g
   unfolding resume resume_seen
   case-later h l C = comes_as (rw (T.opened, not_head S small_i h, in_body h, le-ltb m k l)) (rw (T.opened, not_head S small_i h, in_body h, le-ltb m k l)) C
 
 -- ---- branches
 
-pub no_branches : (f : ℕ) (t : List ℕ) (i e : ℕ) (ws : List clock.Entry) (r : Reads) {base how ones zeros b g : ℕ} {l k : List ℕ} → e ≤ i → Joins base how ones zeros b [] 0 l k g
+pub no_branches : (f : ℕ) (t : List ℕ) (i e : ℕ) (ws : List clock.Entry) (r : Reads) {base : ℕ} {how : How} {ones zeros b : ℕ} {g : How} {l k : Buffer} → e ≤ i → Joins base how ones zeros b [] 0 l k g
     → Joins base how ones zeros b (resume_each (branches_at f t i e) ws r) (resume_each_seen (branches_at f t i e) ws r) l k g
 unfolding resume resume_seen
 no_branches f t i e ws r h J = rw (branches_over f t i e h) J
 
-module _ {f : ℕ} {t : List ℕ} {i e k : ℕ} (B : Branched f t i e k) (old : List ℕ) (b w : ℕ) (r : Reads) {v : ℕ} (vw : v ≡ activities_all (list_at (f - 1) t i k)) where
+module _ {f : ℕ} {t : List ℕ} {i e k : ℕ} (B : Branched f t i e k) (old : List Entry) (b w : ℕ) (r : Reads) {v : ℕ} (vw : v ≡ activities_all (list_at (f - 1) t i k)) where
   abbrev Bs : List clock.Entry
-  Bs = window (entries_in old) b v
+  Bs = window old b v
 
-  pub branch_open : {l j : List ℕ} {g : ℕ} → Comes (resume_all (list_at (f - 1) t i k) Bs r) (resume_all_seen (list_at (f - 1) t i k) Bs r) b l j g → Open l b → Open j (b + v)
-  branch_open C O = next_open C (rw vw (resume-places-all (list_at (f - 1) t i k) (window (entries_in old) b (activities_all (list_at (f - 1) t i k))) r)) O
+  pub branch_open : {l j : Buffer} {g : How} → Comes (resume_all (list_at (f - 1) t i k) Bs r) (resume_all_seen (list_at (f - 1) t i k) Bs r) b l j g → Open l b → Open j (b + v)
+  branch_open C O = next_open C (rw vw (resume-places-all (list_at (f - 1) t i k) (window old b (activities_all (list_at (f - 1) t i k))) r)) O
 
   pub branch_beside : v ≤ w
-      → Beside (resume_each (branches_at f t i e) (window (entries_in old) b w) r) (resume_each_seen (branches_at f t i e) (window (entries_in old) b w) r) v (resume_all (list_at (f - 1) t i k) Bs r) (resume_all_seen (list_at (f - 1) t i k) Bs r) (resume_each (branches_at (f - 1) t k e) (window (entries_in old) (b + v) (w - v)) r) (resume_each_seen (branches_at (f - 1) t k e) (window (entries_in old) (b + v) (w - v)) r)
+      → Beside (resume_each (branches_at f t i e) (window old b w) r) (resume_each_seen (branches_at f t i e) (window old b w) r) v (resume_all (list_at (f - 1) t i k) Bs r) (resume_all_seen (list_at (f - 1) t i k) Bs r) (resume_each (branches_at (f - 1) t k e) (window old (b + v) (w - v)) r) (resume_each_seen (branches_at (f - 1) t k e) (window old (b + v) (w - v)) r)
   unfolding resume resume_seen
   branch_beside fits =
-      let same : take (activities_all (list_at (f - 1) t i k)) (window (entries_in old) b w) ≡ window (entries_in old) b v = ap (λ (n : ℕ). take n (window (entries_in old) b w)) (sym vw) ∙ window-take (entries_in old) b w v fits in
-      let rest : drop (activities_all (list_at (f - 1) t i k)) (window (entries_in old) b w) ≡ window (entries_in old) (b + v) (w - v) = ap (λ (n : ℕ). drop n (window (entries_in old) b w)) (sym vw) ∙ window-drop (entries_in old) b w v in
+      let same : take (activities_all (list_at (f - 1) t i k)) (window old b w) ≡ window old b v = ap (λ (n : ℕ). take n (window old b w)) (sym vw) ∙ window-take old b w v fits in
+      let rest : drop (activities_all (list_at (f - 1) t i k)) (window old b w) ≡ window old (b + v) (w - v) = ap (λ (n : ℕ). drop n (window old b w)) (sym vw) ∙ window-drop old b w v in
       record { is = rw (B.opened, same, rest, ← vw); seen = rw (B.opened, same, rest) }
 
 placed : (bs : Branches Variable) (ws : List clock.Entry) (r : Reads) → Placed (resume_each bs ws r)
@@ -323,7 +327,7 @@ module _ (f : ℕ) (t : List ℕ) (i e : ℕ) (h : i < e) (fuel : 3 * (e - i) �
   abbrev s : Stmt Variable
   s = stmt_at f t i e
 
-  pub plain_is : c ≡ Plain → (ws : List clock.Entry) (r : Reads) {b g : ℕ} {l k : List ℕ} → Comes (start s r) (start_seen s r) b l k g → Comes (resume s ws r) (resume_seen s ws r) b l k g
+  pub plain_is : c ≡ Plain → (ws : List clock.Entry) (r : Reads) {b : ℕ} {g : How} {l k : Buffer} → Comes (start s r) (start_seen s r) b l k g → Comes (resume s ws r) (resume_seen s ws r) b l k g
   plain_is q ws r C =
       let p : IsPlain s = rw opened (plain_of _ (list_at (f - 1) t) (cases_at (f - 1) t) (branches_at (f - 1) t) _ i e (what_at t i) (sym ce ∙ q)) in
       comes_as (p.is ws r) (p.seen ws r) C
@@ -332,7 +336,7 @@ module _ (f : ℕ) (t : List ℕ) (i e : ℕ) (h : i < e) (fuel : 3 * (e - i) �
     waiting : IsDelay s (head_at t i) d
     waiting = rw opened (wait_of _ (list_at (f - 1) t) (cases_at (f - 1) t) (branches_at (f - 1) t) _ i e (what_at t i) d (sym ce ∙ q))
 
-    pub wait_is : (ws : List clock.Entry) (r : Reads) {b g : ℕ} {l k : List ℕ} → Comes (delayed (head_at t i) (left_of d (get_or ws 0 nowhere))) 0 b l k g → Comes (resume s ws r) (resume_seen s ws r) b l k g
+    pub wait_is : (ws : List clock.Entry) (r : Reads) {b : ℕ} {g : How} {l k : Buffer} → Comes (delayed (head_at t i) (left_of d (get_or ws 0 nowhere))) 0 b l k g → Comes (resume s ws r) (resume_seen s ws r) b l k g
     unfolding resume resume_seen
     wait_is ws r C = comes_as (rw waiting.is) (rw waiting.is) C
 
@@ -378,9 +382,9 @@ module _ {f : ℕ} {t : List ℕ} {i e k : ℕ} (E : Eithered f t i e k) where
   unfolding activities
   either-rest-wide = rw E.is.is (le-max_right _ _)
 
-  module _ (s : e ≤ 65535) {old o : List ℕ} {b w m n : ℕ} (S : Stand t old o b w i m n) (r : Reads) where
+  module _ (s : e ≤ 65535) {old : List Entry} {o : Buffer} {b w m n : ℕ} (S : Stand t old o b w i m n) (r : Reads) where
     abbrev Es : List clock.Entry
-    Es = window (entries_in old) b w
+    Es = window old b w
 
     small_e : i < 65535
     small_e = let a : i < k = E.more in let c : k ≤ e = E.most in omega arith
@@ -399,7 +403,7 @@ module _ {f : ℕ} {t : List ℕ} {i e k : ℕ} (E : Eithered f t i e k) where
         (let a : i < k = E.more in let c : k ≤ e = E.most in let d : 3 * (e - i) ≤ f + 1 = E.fuel in omega arith)
         ∙ ap (λ (y : ℕ). ltb y k) (least-next Es i (not_head S small_e h) ∙ sym S.is_least)
 
-    module _ {l j : List ℕ} {g : ℕ} where
+    module _ {l j : Buffer} {g : How} where
       pub either-head : m ≡ i → Comes (start (stmt_at f t i e) r) (start_seen (stmt_at f t i e) r) b l j g → Comes (resume (stmt_at f t i e) Es r) (resume_seen (stmt_at f t i e) Es r) b l j g
       either-head h C = comes_as (either_by ∙ rw (at_head S small_e h)) (either-seen ∙ rw (at_head S small_e h)) C
 
@@ -413,11 +417,11 @@ pub record Repeated (f : ℕ) (t : List ℕ) (i e : ℕ) : Type 0 where
   pub small : i < 65535
   pub is : IsRepeat (stmt_at f t i e) (head_at t i) (list_at (f - 1) t (i + 1) e)
 
-module _ {f : ℕ} {t : List ℕ} {i e : ℕ} (R : Repeated f t i e) {old o : List ℕ} {b w m n : ℕ} (S : Stand t old o b w i m n) (r : Reads) where
+module _ {f : ℕ} {t : List ℕ} {i e : ℕ} (R : Repeated f t i e) {old : List Entry} {o : Buffer} {b w m n : ℕ} (S : Stand t old o b w i m n) (r : Reads) where
   abbrev Rs : List clock.Entry
-  Rs = window (entries_in old) b w
+  Rs = window old b w
 
-  pub repeat_head : {l j : List ℕ} {g : ℕ} → m ≡ i → Comes (start (stmt_at f t i e) r) (start_seen (stmt_at f t i e) r) b l j g → Comes (resume (stmt_at f t i e) Rs r) (resume_seen (stmt_at f t i e) Rs r) b l j g
+  pub repeat_head : {l j : Buffer} {g : How} → m ≡ i → Comes (start (stmt_at f t i e) r) (start_seen (stmt_at f t i e) r) b l j g → Comes (resume (stmt_at f t i e) Rs r) (resume_seen (stmt_at f t i e) Rs r) b l j g
   repeat_head h C = comes_as (R.is.is Rs r ∙ rw (at_head S R.small h)) (R.is.seen Rs r ∙ rw (at_head S R.small h)) C
 
   pub repeat_again : (m ≡ i → ⊥)
@@ -437,14 +441,14 @@ module _ {f : ℕ} {t : List ℕ} {i e : ℕ} (R : Switched f t i e) where
   unfolding activities
   switch-wide = rw R.is
 
-  module _ {old o : List ℕ} {b w m n : ℕ} (S : Stand t old o b w i m n) (r : Reads) where
-    pub switch_head : {l j : List ℕ} {g : ℕ} → m ≡ i → Comes (start (stmt_at f t i e) r) (start_seen (stmt_at f t i e) r) b l j g
-        → Comes (resume (stmt_at f t i e) (window (entries_in old) b w) r) (resume_seen (stmt_at f t i e) (window (entries_in old) b w) r) b l j g
+  module _ {old : List Entry} {o : Buffer} {b w m n : ℕ} (S : Stand t old o b w i m n) (r : Reads) where
+    pub switch_head : {l j : Buffer} {g : How} → m ≡ i → Comes (start (stmt_at f t i e) r) (start_seen (stmt_at f t i e) r) b l j g
+        → Comes (resume (stmt_at f t i e) (window old b w) r) (resume_seen (stmt_at f t i e) (window old b w) r) b l j g
     unfolding resume resume_seen
     switch_head h C = comes_as (rw (R.is, at_head S R.small h)) (rw (R.is, at_head S R.small h)) C
 
-    pub switch_in : {l j : List ℕ} {g h : ℕ} → (m ≡ i → ⊥) → Comes (resume_cases (cases_at (f - 1) t (i + 1) e) (window (entries_in old) b w) r) (resume_cases_seen (cases_at (f - 1) t (i + 1) e) (window (entries_in old) b w) r) b l j g
-        → ((y : Run) (q : ℕ) (k : List ℕ) → Holds y q k g → Holds (caught_run y) q k h) → Comes (resume (stmt_at f t i e) (window (entries_in old) b w) r) (resume_seen (stmt_at f t i e) (window (entries_in old) b w) r) b l j h
+    pub switch_in : {l j : Buffer} {g h : How} → (m ≡ i → ⊥) → Comes (resume_cases (cases_at (f - 1) t (i + 1) e) (window old b w) r) (resume_cases_seen (cases_at (f - 1) t (i + 1) e) (window old b w) r) b l j g
+        → ((y : Run) (q : ℕ) (k : Buffer) → Holds y q k g → Holds (caught_run y) q k h) → Comes (resume (stmt_at f t i e) (window old b w) r) (resume_seen (stmt_at f t i e) (window old b w) r) b l j h
     unfolding resume resume_seen
     switch_in u C p = comes_as (rw (R.is, not_head S R.small u)) (rw (R.is, not_head S R.small u)) (comes_caught C p)
 
@@ -461,33 +465,33 @@ module _ {f : ℕ} {t : List ℕ} {i e : ℕ} (R : Paralleled f t i e) where
   unfolding activities
   parallel-wide = rw R.is
 
-  module _ {old o : List ℕ} {b w m n : ℕ} (S : Stand t old o b w i m n) (r : Reads) where
-    pub parallel-head : {l j : List ℕ} {g : ℕ} → m ≡ i → Comes (start (stmt_at f t i e) r) (start_seen (stmt_at f t i e) r) b l j g
-        → Comes (resume (stmt_at f t i e) (window (entries_in old) b w) r) (resume_seen (stmt_at f t i e) (window (entries_in old) b w) r) b l j g
+  module _ {old : List Entry} {o : Buffer} {b w m n : ℕ} (S : Stand t old o b w i m n) (r : Reads) where
+    pub parallel-head : {l j : Buffer} {g : How} → m ≡ i → Comes (start (stmt_at f t i e) r) (start_seen (stmt_at f t i e) r) b l j g
+        → Comes (resume (stmt_at f t i e) (window old b w) r) (resume_seen (stmt_at f t i e) (window old b w) r) b l j g
     unfolding resume resume_seen
     parallel-head h C = comes_as (rw (R.is, at_head S R.small h)) (rw (R.is, at_head S R.small h)) C
 
-    pub parallel_in : {j : List ℕ} {g h : ℕ} → (m ≡ i → ⊥) → Joins b 0 0 0 b (resume_each (branches_at (f - 1) t (i + 1) e) (window (entries_in old) b w) r) (resume_each_seen (branches_at (f - 1) t (i + 1) e) (window (entries_in old) b w) r) o j g
-        → ((y : Run) (q : ℕ) (k : List ℕ) → Holds y q k g → Holds (caught_run y) q k h) → Comes (resume (stmt_at f t i e) (window (entries_in old) b w) r) (resume_seen (stmt_at f t i e) (window (entries_in old) b w) r) b o j h
+    pub parallel_in : {j : Buffer} {g h : How} → (m ≡ i → ⊥) → Joins b Finished 0 0 b (resume_each (branches_at (f - 1) t (i + 1) e) (window old b w) r) (resume_each_seen (branches_at (f - 1) t (i + 1) e) (window old b w) r) o j g
+        → ((y : Run) (q : ℕ) (k : Buffer) → Holds y q k g → Holds (caught_run y) q k h) → Comes (resume (stmt_at f t i e) (window old b w) r) (resume_seen (stmt_at f t i e) (window old b w) r) b o j h
     unfolding resume resume_seen
     parallel_in u J p =
         comes_as (rw (R.is, not_head S R.small u)) (rw (R.is, not_head S R.small u))
-        (comes_caught (joins-all S.free (placed (branches_at (f - 1) t (i + 1) e) (window (entries_in old) b w) r) J) p)
+        (comes_caught (joins-all S.free (placed (branches_at (f - 1) t (i + 1) e) (window old b w) r) J) p)
 
 -- ---- a statement that starts: it has no parts, or it stands at its head
 
-module _ (f : ℕ) (t : List ℕ) (i e : ℕ) (h : i < e) (fuel : 3 * (e - i) ≤ f + 1) (small : e ≤ 65535) {old o : List ℕ} {b w m n : ℕ} (S : Stand t old o b w i m n) (r : Reads) {l j : List ℕ} {g : ℕ} where
+module _ (f : ℕ) (t : List ℕ) (i e : ℕ) (h : i < e) (fuel : 3 * (e - i) ≤ f + 1) (small : e ≤ 65535) {old : List Entry} {o : Buffer} {b w m n : ℕ} (S : Stand t old o b w i m n) (r : Reads) {l j : Buffer} {g : How} where
   pub starts : {c : Shape} → c ≡ resumed_as (eqb m i) (shape_of (what_at t i)) → c ≡ Plain → Comes (start (stmt_at f t i e) r) (start_seen (stmt_at f t i e) r) b l j g
-      → Comes (resume (stmt_at f t i e) (window (entries_in old) b w) r) (resume_seen (stmt_at f t i e) (window (entries_in old) b w) r) b l j g
+      → Comes (resume (stmt_at f t i e) (window old b w) r) (resume_seen (stmt_at f t i e) (window old b w) r) b l j g
   starts ce q C = by (eqb m i) refl (shape_of (what_at t i)) refl (sym ce ∙ q)
     where
       tiny : i < 65535
       tiny = omega arith
 
       by : (p : Bool) → eqb m i ≡ p → (x : Shape) → shape_of (what_at t i) ≡ x → resumed_as (eqb m i) (shape_of (what_at t i)) ≡ Plain
-          → Comes (resume (stmt_at f t i e) (window (entries_in old) b w) r) (resume_seen (stmt_at f t i e) (window (entries_in old) b w) r) b l j g
-      by false u x v k = plain_is f t i e h fuel refl (rw u at k) (window (entries_in old) b w) r C
-      by true u Plain v k = plain_is f t i e h fuel refl v (window (entries_in old) b w) r C
+          → Comes (resume (stmt_at f t i e) (window old b w) r) (resume_seen (stmt_at f t i e) (window old b w) r) b l j g
+      by false u x v k = plain_is f t i e h fuel refl (rw u at k) (window old b w) r C
+      by true u Plain v k = plain_is f t i e h fuel refl v (window old b w) r C
       by true u (Waiting d) v k = other (Waiting d) Plain (rw (u, v) at k) (λ z. omega arith)
       by true u (Either a) v k = either-head (eithered f t i e a (within a i e) h fuel refl v refl) small S r (eqb-true m i u) C
       by true u Repeat v k = repeat_head (record { small = tiny; is = repeat_is f t i e h fuel refl v }) S r (eqb-true m i u) C

@@ -4,8 +4,10 @@ use Rattle.std.specs.Prelude.{◌≡◌, ℕ, ◌+◌, ◌≤◌, Bool, true, fa
 use Rattle.nodes.specs.Ready.{Leaves}
 use Rattle.nodes.specs.declared.Shape.{Shape}
 use Rattle.nodes.specs.declared.Shape.TheVariants.{Plain, Waiting, Either, Repeat, Tests, Together}
+use Rattle.runs.specs.declared.Buffer.{Buffer}
+use Rattle.runs.specs.declared.Entry.{Entry}
 use Rattle.runs.specs.Run.{window, least}
-use Rattle.runs.specs.Buffer.{entries_in, Open}
+use Rattle.runs.specs.Buffer.{Open}
 
 -- a statement that stands at its head starts, but for a delay
 abbrev pub head_shape : Shape → Shape
@@ -22,10 +24,10 @@ resumed_as false s = s
 
 -- n activities have w of the old entries from b on; from b on no new entry is there yet; m is the least number from i on
 -- where one of them stands
-pub record Stand (t old o : List ℕ) (b w i m n : ℕ) : Type 0 where
+pub record Stand (t : List ℕ) (old : List Entry) (o : Buffer) (b w i m n : ℕ) : Type 0 where
   pub leaves : Leaves t
   pub room : b + w ≤ 8
   pub wide : n ≤ w
   pub kept : length old ≡ 8
   pub free : Open o b
-  pub is_least : m ≡ least (window (entries_in old) b w) i
+  pub is_least : m ≡ least (window old b w) i

@@ -8,14 +8,15 @@ use Rattle.meaning.specs.Tree.{Head}
 use Rattle.meaning.specs.Tries.{Tries}
 use Rattle.meaning.specs.Clock.{Outcome, finishes, jumps, waits, After, done, stands, out, off, and_then, caught, looped, stands_at}
 use Rattle.runs.specs.declared.Entry.{Entry}
-use Rattle.runs.specs.Run.{Ends, put, run, embed, stand_run, then_run, looped_run, caught_run}
+use Rattle.runs.specs.declared.How.TheVariants.{Waits}
+use Rattle.runs.specs.Run.{put, run, embed, stand_run, then_run, looped_run, caught_run}
 
 -- the place of what comes next, from m to e
 abbrev pub place_at : Head → ℕ → After
 place_at h e = cond (ltb h.number e) (stands_at h) done
 
 then_placed : (x : Bool) (t : Tries) (h : Head) (b : ℕ) (es : List Entry)
-    → cond x (stand_run (run Ends es t.ones t.zeros) b h.number) (run Ends es t.ones t.zeros) ≡ embed (waits t (cond x (stands_at h) done)) b es
+    → cond x (stand_run (run Waits es t.ones t.zeros) b h.number) (run Waits es t.ones t.zeros) ≡ embed (waits t (cond x (stands_at h) done)) b es
 unfolding put
 then_placed true t h b es = refl
 then_placed false t h b es = refl

@@ -16,7 +16,9 @@ use Rattle.meaning.specs.Clock as clock
 use Rattle.meaning.proofs.Bits.{bit_or_lem, same_bits}
 use Rattle.meaning.proofs.Places.{Places, places-kept}
 use Rattle.runs.specs.declared.Entry.{Entry}
-use Rattle.runs.specs.Run.{How, Finished, Out, Off, Ends, Stands, Run, empty, entry_of, put, Clear, run, jump_how, embed, latest, merged_run, closed_run, jump_or_by, join_from}
+use Rattle.runs.specs.declared.How.{How}
+use Rattle.runs.specs.declared.How.TheVariants.{Finished, Exit, Break, Waits, Stands}
+use Rattle.runs.specs.Run.{Run, empty, entry_of, put, Clear, run, jump_how, embed, latest, merged_run, closed_run, jump_or_by, join_from}
 
 -- ---- entries
 
@@ -69,7 +71,7 @@ Placed (x ∷ xs) = Places x.wide x.outcome × Placed xs
 abbrev how_in : Outcome → How
 how_in finishes = Finished
 how_in (jumps j) = jump_how j
-how_in (waits t done) = Ends
+how_in (waits t done) = Waits
 how_in (waits t (stands es)) = Stands
 
 abbrev how_of : How → List Branch → How
@@ -192,27 +194,27 @@ unfolding each
 none-put [] e es b = refl
 none-put (x ∷ xs) e es b = put_step x.outcome x.wide xs e (none-put xs) es b
 
-ends-step : (q : Outcome) (w : ℕ) (xs : List Branch) → each finishing (branch w q ∷ xs) ≡ true → (each finishing xs ≡ true → how_of Ends xs ≡ Ends) → how_of Ends (branch w q ∷ xs) ≡ Ends
+ends-step : (q : Outcome) (w : ℕ) (xs : List Branch) → each finishing (branch w q ∷ xs) ≡ true → (each finishing xs ≡ true → how_of Waits xs ≡ Waits) → how_of Waits (branch w q ∷ xs) ≡ Waits
 unfolding each
 ends-step finishes w xs e k = k e
 ends-step (jumps j) w xs e k = no_false e
 ends-step (waits t done) w xs e k = k e
 ends-step (waits t (stands ys)) w xs e k = no_false e
 
-ends-ends : (bs : List Branch) → each finishing bs ≡ true → how_of Ends bs ≡ Ends
+ends-ends : (bs : List Branch) → each finishing bs ≡ true → how_of Waits bs ≡ Waits
 unfolding each
 ends-ends [] e = refl
 ends-ends (x ∷ xs) e = ends-step x.outcome x.wide xs e (ends-ends xs)
 
 first-ends-step : (q : Outcome) (w : ℕ) (xs : List Branch) → each finishing (branch w q ∷ xs) ≡ true → each finished (branch w q ∷ xs) ≡ false
-    → (each finishing xs ≡ true → each finished xs ≡ false → how_of Finished xs ≡ Ends) → how_of Finished (branch w q ∷ xs) ≡ Ends
+    → (each finishing xs ≡ true → each finished xs ≡ false → how_of Finished xs ≡ Waits) → how_of Finished (branch w q ∷ xs) ≡ Waits
 unfolding each
 first-ends-step finishes w xs e f k = k e f
 first-ends-step (jumps j) w xs e f k = no_false e
 first-ends-step (waits t done) w xs e f k = ends-ends xs e
 first-ends-step (waits t (stands ys)) w xs e f k = no_false e
 
-first_ends : (bs : List Branch) → each finishing bs ≡ true → each finished bs ≡ false → how_of Finished bs ≡ Ends
+first_ends : (bs : List Branch) → each finishing bs ≡ true → each finished bs ≡ false → how_of Finished bs ≡ Waits
 unfolding each
 first_ends [] e f = no_true f
 first_ends (x ∷ xs) e f = first-ends-step x.outcome x.wide xs e f (first_ends xs)
@@ -224,9 +226,9 @@ stands-stands (x ∷ xs) = stands-stands xs
 
 to_stands : (h : How) → latest h Stands ≡ Stands
 to_stands Finished = refl
-to_stands Out = refl
-to_stands Off = refl
-to_stands Ends = refl
+to_stands Exit = refl
+to_stands Break = refl
+to_stands Waits = refl
 to_stands Stands = refl
 
 stands-step : (q : Outcome) (w : ℕ) (xs : List Branch) (h : How) → jump_in (branch w q ∷ xs) ≡ none → each finishing (branch w q ∷ xs) ≡ false

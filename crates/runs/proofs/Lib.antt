@@ -1,6 +1,6 @@
 pub mod Laws
 pub mod Embed
 pub mod Join
-pub mod Buffer
+pub mod Steps
 pub mod Comes
 pub mod Unseen

@@ -6,6 +6,8 @@ use Rattle.meaning.specs.Tries.{without}
 use Rattle.meaning.specs.Clock.{Outcome, finishes, jumps, waits, done, stands, Jump, Branch, out, off, nowhere, at}
 use Rattle.meaning.specs.Clock as clock
 use Rattle.runs.specs.declared.Entry.{Entry}
+use Rattle.runs.specs.declared.How.{How}
+use Rattle.runs.specs.declared.How.TheVariants.{Finished, Exit, Break, Waits, Stands}
 
 -- ---- entries
 
@@ -57,14 +59,6 @@ least xs i = least_from xs i none
 
 -- ---- outcomes
 
--- Ends: it waits, and has finished then. Stands: it waits, and stands somewhere then.
-pub data How : Type 0 where
-  Finished : How
-  Out : How
-  Off : How
-  Ends : How
-  Stands : How
-
 pub record Run : Type 0 where
   pub how : How
   pub entries : List Entry
@@ -75,13 +69,13 @@ abbrev pub run : How → List Entry → ℕ → ℕ → Run
 run h es o z = record { entries = es; ones = o; zeros = z; how = h }
 
 abbrev pub jump_how : Jump → How
-jump_how out = Out
-jump_how off = Off
+jump_how out = Exit
+jump_how off = Break
 
 abbrev pub embed : Outcome → ℕ → List Entry → Run
 embed finishes b es = run Finished es 0 0
 embed (jumps j) b es = run (jump_how j) es 0 0
-embed (waits t done) b es = run Ends es t.ones t.zeros
+embed (waits t done) b es = run Waits es t.ones t.zeros
 embed (waits t (stands xs)) b es = run Stands (put es b xs) t.ones t.zeros
 
 -- it waits, and stands at the number n then
@@ -91,19 +85,19 @@ stand_run r b n = run Stands (set r.entries b (entry_of (at n 0))) r.ones r.zero
 -- the rest, from m to e, comes next
 abbrev pub then_by : How → Run → ℕ → ℕ → ℕ → Run
 then_by Finished r b m e = r
-then_by Out r b m e = r
-then_by Off r b m e = r
-then_by Ends r b m e = cond (ltb m e) (stand_run r b m) r
+then_by Exit r b m e = r
+then_by Break r b m e = r
+then_by Waits r b m e = cond (ltb m e) (stand_run r b m) r
 then_by Stands r b m e = r
 
 abbrev pub then_run : Run → ℕ → ℕ → ℕ → Run
 then_run r b m e = then_by r.how r b m e
 
 abbrev pub looped_by : How → Run → ℕ → ℕ → Run
-looped_by Finished r b n = stand_run (run Ends r.entries 0 0) b n
-looped_by Out r b n = run Finished r.entries r.ones r.zeros
-looped_by Off r b n = r
-looped_by Ends r b n = stand_run r b n
+looped_by Finished r b n = stand_run (run Waits r.entries 0 0) b n
+looped_by Exit r b n = run Finished r.entries r.ones r.zeros
+looped_by Break r b n = r
+looped_by Waits r b n = stand_run r b n
 looped_by Stands r b n = r
 
 abbrev pub looped_run : Run → ℕ → ℕ → Run
@@ -111,9 +105,9 @@ looped_run r b n = looped_by r.how r b n
 
 abbrev pub caught_by : How → How
 caught_by Finished = Finished
-caught_by Out = Out
-caught_by Off = Finished
-caught_by Ends = Ends
+caught_by Exit = Exit
+caught_by Break = Finished
+caught_by Waits = Waits
 caught_by Stands = Stands
 
 abbrev pub caught_run : Run → Run
@@ -124,21 +118,21 @@ caught_run r = run (caught_by r.how) r.entries r.ones r.zeros
 -- the one that comes last in their order
 abbrev pub latest : How → How → How
 latest Finished k = k
-latest Out Finished = Out
-latest Out Out = Out
-latest Out Off = Off
-latest Out Ends = Ends
-latest Out Stands = Stands
-latest Off Finished = Off
-latest Off Out = Off
-latest Off Off = Off
-latest Off Ends = Ends
-latest Off Stands = Stands
-latest Ends Finished = Ends
-latest Ends Out = Ends
-latest Ends Off = Ends
-latest Ends Ends = Ends
-latest Ends Stands = Stands
+latest Exit Finished = Exit
+latest Exit Exit = Exit
+latest Exit Break = Break
+latest Exit Waits = Waits
+latest Exit Stands = Stands
+latest Break Finished = Break
+latest Break Exit = Break
+latest Break Break = Break
+latest Break Waits = Waits
+latest Break Stands = Stands
+latest Waits Finished = Waits
+latest Waits Exit = Waits
+latest Waits Break = Waits
+latest Waits Waits = Waits
+latest Waits Stands = Stands
 latest Stands k = Stands
 
 abbrev pub merged_run : Run → Run → Run
@@ -149,10 +143,18 @@ closed_run r = run r.how r.entries (without r.ones r.zeros) (without r.zeros r.o
 
 abbrev pub is_jump : How → Bool
 is_jump Finished = false
-is_jump Out = true
-is_jump Off = true
-is_jump Ends = false
+is_jump Exit = true
+is_jump Break = true
+is_jump Waits = false
 is_jump Stands = false
+
+-- its tries count
+abbrev pub is_waiting : How → Bool
+is_waiting Finished = false
+is_waiting Exit = false
+is_waiting Break = false
+is_waiting Waits = true
+is_waiting Stands = true
 
 abbrev pub jump_or_by : How → List Entry → Run → Run
 jump_or_by h es next = cond (is_jump h) (run h es 0 0) next

@@ -17,18 +17,18 @@ use Rattle.nodes.specs.Decode.{expr_at, most_deep, head_at, list_at, stmt_at, ca
 use Rattle.nodes.specs.declared.Among.{Among}
 use Rattle.nodes.specs.declared.Among.TheVariants as among
 use Rattle.nodes.proofs.Laws.{within_more, within-most, end_more, end-most, branch_more, branch_most, list_over, list-opened, cases_over, cases_opened, branches_over, branches_opened, head_is_lem}
+use Rattle.runs.specs.declared.Buffer.{Buffer}
+use Rattle.runs.specs.declared.How.{How}
+use Rattle.runs.specs.declared.How.TheVariants.{Finished}
 use Rattle.runs.specs.Run.{Run, looped_run, caught_run}
 use Rattle.runs.specs.Buffer.{Holds, Comes, Looked, Open, Joins}
 use Rattle.runs.specs.Seen.{then_seen, start_seen, start_all_seen, start_cases_seen, start_each_seen}
 use Rattle.runs.proofs.Embed.{place_at}
 use Rattle.runs.proofs.Join.{Placed}
-use Rattle.runs.proofs.Buffer.{finishes_now}
+use Rattle.runs.proofs.Steps.{finishes_now}
 use Rattle.runs.proofs.Comes.{Then, Beside, comes_as, comes_looked, comes_looped, comes_caught, next_open, joins-all}
 use Rattle.nodes.specs.Looks.{looks}
 use Rattle.nodes.specs.Good.{GoodTest, Good, GoodAll, GoodCases, GoodEach, first_number}
-
-some-fuel : {f n : ℕ} → 3 * n ≤ f → 0 < n → f ≡ 0 → ⊥
-some-fuel h k e = omega arith
 
 -- ---- lists
 
@@ -76,7 +76,7 @@ module _ {f : ℕ} {t : List ℕ} {i e m : ℕ} (L : Listed f t i e m) where
         seen = rw L.opened;
       }
 
-pub list-none : (f : ℕ) (t : List ℕ) (i e : ℕ) (r : Reads) (b : ℕ) (l : List ℕ) → length l ≡ 11 → e ≤ i → Comes (start_all (list_at f t i e) r) (start_all_seen (list_at f t i e) r) b l l 0
+pub list-none : (f : ℕ) (t : List ℕ) (i e : ℕ) (r : Reads) (b : ℕ) (l : Buffer) → length l.entries ≡ 8 → e ≤ i → Comes (start_all (list_at f t i e) r) (start_all_seen (list_at f t i e) r) b l l Finished
 unfolding start start_seen
 list-none f t i e r b l n h = rw (list_over f t i e h) (finishes_now l b n)
 
@@ -93,7 +93,7 @@ some-case (case h e b cs) = le_trans (some-case cs) (le-max_right _ _)
 
 -- ---- cases
 
-pub cases_none : (f : ℕ) (t : List ℕ) (i e : ℕ) (r : Reads) (b : ℕ) (l : List ℕ) → length l ≡ 11 → e ≤ i → Comes (start_cases (cases_at f t i e) r) (start_cases_seen (cases_at f t i e) r) b l l 0
+pub cases_none : (f : ℕ) (t : List ℕ) (i e : ℕ) (r : Reads) (b : ℕ) (l : Buffer) → length l.entries ≡ 8 → e ≤ i → Comes (start_cases (cases_at f t i e) r) (start_cases_seen (cases_at f t i e) r) b l l Finished
 unfolding start start_seen
 cases_none f t i e r b l n h = rw (cases_over f t i e h) (finishes_now l b n)
 
@@ -112,7 +112,7 @@ module _ {f : ℕ} {t : List ℕ} {i e : ℕ} (D : Defaulted f t i e) where
   unfolding activities
   default_wide = rw D.opened
 
-  pub default_is : (r : Reads) {b : ℕ} {l k : List ℕ} {h : ℕ} → Comes (start_all (list_at (f - 1) t i e) r) (start_all_seen (list_at (f - 1) t i e) r) b l k h → Comes (start_cases (cases_at f t i e) r) (start_cases_seen (cases_at f t i e) r) b l k h
+  pub default_is : (r : Reads) {b : ℕ} {l k : Buffer} {h : How} → Comes (start_all (list_at (f - 1) t i e) r) (start_all_seen (list_at (f - 1) t i e) r) b l k h → Comes (start_cases (cases_at f t i e) r) (start_cases_seen (cases_at f t i e) r) b l k h
   unfolding start start_seen
   default_is r C = comes_as (rw D.opened) (rw D.opened) C
 
@@ -168,12 +168,12 @@ module _ {f : ℕ} {t : List ℕ} {i e x k : ℕ} (T : Tested f t i e x k) where
             seen = refl;
           }
 
-      pub test-true : {b h : ℕ} {l j m : List ℕ} → Looked (looks (expr_at most_deep t x)) l j → Comes (start_cases (cases_at f t i e) r) rest_seen b j m h
+      pub test-true : {b : ℕ} {h : How} {l j m : Buffer} → Looked (looks (expr_at most_deep t x)) l j → Comes (start_cases (cases_at f t i e) r) rest_seen b j m h
           → Comes (start_cases (cases_at f t i e) r) (start_cases_seen (cases_at f t i e) r) b l m h
       unfolding start_seen
       test-true L C = comes_as refl (rw (T.opened, u)) (comes_looked L C)
 
-    pub test-false : {b h : ℕ} {l j m : List ℕ} → holds (expr_at most_deep t x) r ≡ false → Looked (looks (expr_at most_deep t x)) l j → Comes (start_cases (cases_at (f - 1) t k e) r) (start_cases_seen (cases_at (f - 1) t k e) r) b j m h
+    pub test-false : {b : ℕ} {h : How} {l j m : Buffer} → holds (expr_at most_deep t x) r ≡ false → Looked (looks (expr_at most_deep t x)) l j → Comes (start_cases (cases_at (f - 1) t k e) r) (start_cases_seen (cases_at (f - 1) t k e) r) b j m h
         → Comes (start_cases (cases_at f t i e) r) (start_cases_seen (cases_at f t i e) r) b l m h
     unfolding start start_seen
     test-false u L C = comes_as (rw (T.opened, u)) (rw (T.opened, u)) (comes_looked L C)
@@ -206,7 +206,7 @@ module _ {f : ℕ} {t : List ℕ} {i e m : ℕ} (B : Branched f t i e m) where
   branch_wide = rw B.opened
 
   module _ (r : Reads) where
-    pub branch_open : {b h : ℕ} {l k : List ℕ} → Comes (start_all (list_at (f - 1) t i m) r) (start_all_seen (list_at (f - 1) t i m) r) b l k h → Open l b → Open k (b + activities_all (list_at (f - 1) t i m))
+    pub branch_open : {b : ℕ} {h : How} {l k : Buffer} → Comes (start_all (list_at (f - 1) t i m) r) (start_all_seen (list_at (f - 1) t i m) r) b l k h → Open l b → Open k (b + activities_all (list_at (f - 1) t i m))
     branch_open C O = next_open C (start-places-all (list_at (f - 1) t i m) r) O
 
     pub branch_beside : {w : ℕ} → w ≡ activities_all (list_at (f - 1) t i m)
@@ -214,7 +214,7 @@ module _ {f : ℕ} {t : List ℕ} {i e m : ℕ} (B : Branched f t i e m) where
     unfolding start start_seen
     branch_beside v = record { is = rw (B.opened, v); seen = rw B.opened }
 
-pub no_branches : (f : ℕ) (t : List ℕ) (i e : ℕ) (r : Reads) {base how ones zeros b h : ℕ} {l k : List ℕ} → e ≤ i → Joins base how ones zeros b [] 0 l k h
+pub no_branches : (f : ℕ) (t : List ℕ) (i e : ℕ) (r : Reads) {base : ℕ} {how : How} {ones zeros b : ℕ} {h : How} {l k : Buffer} → e ≤ i → Joins base how ones zeros b [] 0 l k h
     → Joins base how ones zeros b (start_each (branches_at f t i e) r) (start_each_seen (branches_at f t i e) r) l k h
 unfolding start start_seen
 no_branches f t i e r h J = rw (branches_over f t i e h) J
@@ -226,7 +226,7 @@ placed (b ∥ bs) r = (start-places-all b r, placed bs r)
 
 -- ---- one statement, once it is known what it is
 
-pub one_is : (f : ℕ) (t : List ℕ) (i e : ℕ) (s : Stmt Variable) → stmt_at f t i e ≡ s → (r : Reads) {b h : ℕ} {l k : List ℕ} → Comes (start s r) (start_seen s r) b l k h → Comes (start (stmt_at f t i e) r) (start_seen (stmt_at f t i e) r) b l k h
+pub one_is : (f : ℕ) (t : List ℕ) (i e : ℕ) (s : Stmt Variable) → stmt_at f t i e ≡ s → (r : Reads) {b : ℕ} {h : How} {l k : Buffer} → Comes (start s r) (start_seen s r) b l k h → Comes (start (stmt_at f t i e) r) (start_seen (stmt_at f t i e) r) b l k h
 one_is f t i e s o r C = comes_as (ap (λ (x : Stmt Variable). start x r) o) (ap (λ (x : Stmt Variable). start_seen x r) o) C
 
 pub record Chosen (f : ℕ) (t : List ℕ) (i e x k : ℕ) : Type 0 where
@@ -251,7 +251,7 @@ module _ {f : ℕ} {t : List ℕ} {i e x k : ℕ} (C : Chosen f t i e x k) where
   unfolding activities
   choice-rest-wide = rw C.opened (le-max_right _ _)
 
-  module _ (r : Reads) {b h : ℕ} {l j m : List ℕ} (L : Looked (looks (expr_at most_deep t x)) l j) where
+  module _ (r : Reads) {b : ℕ} {h : How} {l j m : Buffer} (L : Looked (looks (expr_at most_deep t x)) l j) where
     pub choice-true : holds (expr_at most_deep t x) r ≡ true → Comes (start_all (list_at (f - 1) t (i + 1) k) r) (start_all_seen (list_at (f - 1) t (i + 1) k) r) b j m h → Comes (start (stmt_at f t i e) r) (start_seen (stmt_at f t i e) r) b l m h
     unfolding start start_seen
     choice-true u D = comes_as (rw (C.opened, u)) (rw (C.opened, u)) (comes_looked L D)
@@ -272,13 +272,13 @@ module _ {f : ℕ} {t : List ℕ} {i e x : ℕ} (o : IsWhile f t i e x) where
   unfolding activities
   while-wide = rw o.is
 
-  module _ (r : Reads) {b : ℕ} {l j : List ℕ} (L : Looked (looks (expr_at most_deep t x)) l j) where
-    pub while-true : {h g : ℕ} {k m : List ℕ} → holds (expr_at most_deep t x) r ≡ true → Comes (start_all (list_at (f - 1) t (i + 1) e) r) (start_all_seen (list_at (f - 1) t (i + 1) e) r) b j k h
+  module _ (r : Reads) {b : ℕ} {l j : Buffer} (L : Looked (looks (expr_at most_deep t x)) l j) where
+    pub while-true : {h g : How} {k m : Buffer} → holds (expr_at most_deep t x) r ≡ true → Comes (start_all (list_at (f - 1) t (i + 1) e) r) (start_all_seen (list_at (f - 1) t (i + 1) e) r) b j k h
         → ((y : Run) (q : ℕ) → Holds y q k h → Holds (looped_run y b i) q m g) → Comes (start (stmt_at f t i e) r) (start_seen (stmt_at f t i e) r) b l m g
     unfolding start start_seen
     while-true u C p = comes_as (rw (o.is, u)) (rw (o.is, u)) (comes_looked L (comes_looped C (head_at t i) p))
 
-    pub while-false : holds (expr_at most_deep t x) r ≡ false → Comes (start (stmt_at f t i e) r) (start_seen (stmt_at f t i e) r) b l j 0
+    pub while-false : holds (expr_at most_deep t x) r ≡ false → Comes (start (stmt_at f t i e) r) (start_seen (stmt_at f t i e) r) b l j Finished
     unfolding start start_seen
     while-false u = comes_as (rw (o.is, u)) (rw (o.is, u)) (comes_looked L (finishes_now j b L.long))
 
@@ -294,7 +294,7 @@ module _ {f : ℕ} {t : List ℕ} {i e : ℕ} (o : IsLoop f t i e) where
   unfolding activities
   loop-wide = rw o.is
 
-  pub loop_is : (r : Reads) {b h g : ℕ} {l k m : List ℕ} → Comes (start_all (list_at (f - 1) t (i + 1) e) r) (start_all_seen (list_at (f - 1) t (i + 1) e) r) b l k h
+  pub loop_is : (r : Reads) {b : ℕ} {h g : How} {l k m : Buffer} → Comes (start_all (list_at (f - 1) t (i + 1) e) r) (start_all_seen (list_at (f - 1) t (i + 1) e) r) b l k h
       → ((y : Run) (q : ℕ) → Holds y q k h → Holds (looped_run y b i) q m g) → Comes (start (stmt_at f t i e) r) (start_seen (stmt_at f t i e) r) b l m g
   unfolding start start_seen
   loop_is r C p = comes_as (rw o.is) (rw o.is) (comes_looped C (head_at t i) p)
@@ -311,8 +311,8 @@ module _ {f : ℕ} {t : List ℕ} {i e : ℕ} (o : IsSwitch f t i e) where
   unfolding activities
   switch-wide = rw o.is
 
-  pub switch_is : (r : Reads) {b h g : ℕ} {l k : List ℕ} → Comes (start_cases (cases_at (f - 1) t (i + 1) e) r) (start_cases_seen (cases_at (f - 1) t (i + 1) e) r) b l k h
-      → ((y : Run) (q : ℕ) (m : List ℕ) → Holds y q m h → Holds (caught_run y) q m g) → Comes (start (stmt_at f t i e) r) (start_seen (stmt_at f t i e) r) b l k g
+  pub switch_is : (r : Reads) {b : ℕ} {h g : How} {l k : Buffer} → Comes (start_cases (cases_at (f - 1) t (i + 1) e) r) (start_cases_seen (cases_at (f - 1) t (i + 1) e) r) b l k h
+      → ((y : Run) (q : ℕ) (m : Buffer) → Holds y q m h → Holds (caught_run y) q m g) → Comes (start (stmt_at f t i e) r) (start_seen (stmt_at f t i e) r) b l k g
   unfolding start start_seen
   switch_is r C p = comes_as (rw o.is) (rw o.is) (comes_caught C p)
 
@@ -328,7 +328,7 @@ module _ {f : ℕ} {t : List ℕ} {i e : ℕ} (o : IsParallel f t i e) where
   unfolding activities
   parallel-wide = rw o.is
 
-  pub parallel_is : (r : Reads) {b h g : ℕ} {l k : List ℕ} → Open l b → Joins b 0 0 0 b (start_each (branches_at (f - 1) t (i + 1) e) r) (start_each_seen (branches_at (f - 1) t (i + 1) e) r) l k h
-      → ((y : Run) (q : ℕ) (m : List ℕ) → Holds y q m h → Holds (caught_run y) q m g) → Comes (start (stmt_at f t i e) r) (start_seen (stmt_at f t i e) r) b l k g
+  pub parallel_is : (r : Reads) {b : ℕ} {h g : How} {l k : Buffer} → Open l b → Joins b Finished 0 0 b (start_each (branches_at (f - 1) t (i + 1) e) r) (start_each_seen (branches_at (f - 1) t (i + 1) e) r) l k h
+      → ((y : Run) (q : ℕ) (m : Buffer) → Holds y q m h → Holds (caught_run y) q m g) → Comes (start (stmt_at f t i e) r) (start_seen (stmt_at f t i e) r) b l k g
   unfolding start start_seen
   parallel_is r O J p = comes_as (rw o.is) (rw o.is) (comes_caught (joins-all O (placed (branches_at (f - 1) t (i + 1) e) r) J) p)

@@ -7,138 +7,112 @@ ghost use Rattle.nodes.specs.Layout.{what_at, width_at, looks_at};
 ghost use Rattle.nodes.specs.declared.What.TheVariants.{Choice};
 ghost use Rattle.nodes.specs.Decode.{list_at, stmt_at, cases_at, branches_at};
 ghost use Rattle.nodes.specs.Good.{Good, GoodAll, GoodCases, GoodEach};
+ghost use Rattle.value.specs.Read.{reads};
 ghost use Rattle.runs.specs.Buffer.{Open, Comes, Joins};
 ghost use Rattle.runs.specs.Seen.{start_seen, start_all_seen, start_cases_seen, start_each_seen};
 
-use nodes::{Among, What};
+// The calls go down a tree and count no index: each contract says what the definition of that part says, and a loop would
+// repeat it as its invariant.
+use nodes::{Among, Tree, What};
+use runs::{Buffer, How};
+use value::Reads;
 
 // The statement i, which ends at e; its first activity is b.
 #[cycle(branches_cases_choice_list_one)]
-pub fn one(
-    t: &[u8; 16384],
-    word: u32,
-    inputs: u32,
-    i: u16,
-    e: u16,
-    left: u16,
-    b: u16,
-    o: &mut [u32; 11],
-) -> u8
+pub fn one(t: &Tree, r: Reads, i: u16, e: u16, left: u16, b: u16, o: &mut Buffer) -> How
     requires { Good (width_at t.now) (looks_at t.now) (stmt_at left t.now i e) × ((i < e) × ((3 * (e - i) ≤ left + 1) × ((b + activities (stmt_at left t.now i e) ≤ 8) × Open o.old b))) }
-    ensures { Comes (start (stmt_at left t.now i e) (record { word = word; inputs = inputs })) (start_seen (stmt_at left t.now i e) (record { word = word; inputs = inputs })) b o.old o.new result }
+    ensures { Comes (start (stmt_at left t.now i e) (reads r)) (start_seen (stmt_at left t.now i e) (reads r)) b o.old o.new result }
 {
     let less = left - 1;
     let n = nodes::node_at(t, i);
-    let w = n.what;
-    match w {
-        What::Skip => runs::tried(o, 0, 0),
+    match n.what {
+        What::Skip | What::Case(_, _) => o.tried(0, 0),
         What::Delay(_, d) => waits::delay(o, b, i, d as u8),
-        What::Change(c, v) => waits::change_bit(o, word, c, v),
-        What::Assign(v, x) => waits::assign(t, word, inputs, i, v, x, o),
-        What::Choice(x, m) => choice(t, word, inputs, i, e, x, m, left, b, o),
+        What::Change(c, v) => waits::change_bit(o, r.word, c, v),
+        What::Assign(v, x) => waits::assign(t, r, i, v, x, o),
+        What::Choice(x, m) => choice(t, r, i, e, x, m, left, b, o),
         What::While(x) => {
-            if waits::holds(t, word, inputs, i, x, o) {
-                let h = list(t, word, inputs, i + 1, e, less, b, o);
-                return runs::looped(o, b, i, h);
+            if waits::holds(t, r, i, x, o) {
+                let h = list(t, r, i + 1, e, less, b, o);
+                o.looped(b, i, h)
+            } else {
+                How::Finished
             }
-            0
         }
         What::Loop => {
-            let h = list(t, word, inputs, i + 1, e, less, b, o);
-            runs::looped(o, b, i, h)
+            let h = list(t, r, i + 1, e, less, b, o);
+            o.looped(b, i, h)
         }
-        What::Exit => 1,
-        What::Break => 2,
-        What::Switch => runs::caught(cases(t, word, inputs, i + 1, e, less, b, o)),
-        What::Parallel => runs::caught(branches(t, word, inputs, i + 1, e, less, b, b, 0, 0, 0, o)),
-        What::Case(_, _) => runs::tried(o, 0, 0),
+        What::Exit => How::Exit,
+        What::Break => How::Break,
+        What::Switch => cases(t, r, i + 1, e, less, b, o).caught(),
+        What::Parallel => { branches(t, r, i + 1, e, less, b, b, How::Finished, 0, 0, o).caught() }
     }
 }
 
 // The choice i, which ends at e: its test is x, its first list ends at m.
 #[cycle(branches_cases_choice_list_one)]
 fn choice(
-    t: &[u8; 16384],
-    word: u32,
-    inputs: u32,
+    t: &Tree,
+    r: Reads,
     i: u16,
     e: u16,
     x: u16,
     m: u16,
     left: u16,
     b: u16,
-    o: &mut [u32; 11],
-) -> u8
+    o: &mut Buffer,
+) -> How
     requires { (what_at t.now i ≡ Choice x m) × (Good (width_at t.now) (looks_at t.now) (stmt_at left t.now i e) × ((i < e) × ((3 * (e - i) ≤ left + 1) × ((b + activities (stmt_at left t.now i e) ≤ 8) × Open o.old b)))) }
-    ensures { Comes (start (stmt_at left t.now i e) (record { word = word; inputs = inputs })) (start_seen (stmt_at left t.now i e) (record { word = word; inputs = inputs })) b o.old o.new result }
+    ensures { Comes (start (stmt_at left t.now i e) (reads r)) (start_seen (stmt_at left t.now i e) (reads r)) b o.old o.new result }
 {
     let less = left - 1;
     let k = nodes::kept(m, i, e);
-    if waits::holds(t, word, inputs, i, x, o) {
-        return list(t, word, inputs, i + 1, k, less, b, o);
+    if waits::holds(t, r, i, x, o) {
+        list(t, r, i + 1, k, less, b, o)
+    } else {
+        list(t, r, k, e, less, b, o)
     }
-    list(t, word, inputs, k, e, less, b, o)
 }
 
 // The list from i to e.
 #[cycle(branches_cases_choice_list_one)]
-pub fn list(
-    t: &[u8; 16384],
-    word: u32,
-    inputs: u32,
-    i: u16,
-    e: u16,
-    left: u16,
-    b: u16,
-    o: &mut [u32; 11],
-) -> u8
+pub fn list(t: &Tree, r: Reads, i: u16, e: u16, left: u16, b: u16, o: &mut Buffer) -> How
     requires { GoodAll (width_at t.now) (looks_at t.now) (list_at left t.now i e) × ((3 * (e - i) ≤ left) × ((b + activities_all (list_at left t.now i e) ≤ 8) × Open o.old b)) }
-    ensures { Comes (start_all (list_at left t.now i e) (record { word = word; inputs = inputs })) (start_all_seen (list_at left t.now i e) (record { word = word; inputs = inputs })) b o.old o.new result }
+    ensures { Comes (start_all (list_at left t.now i e) (reads r)) (start_all_seen (list_at left t.now i e) (reads r)) b o.old o.new result }
 {
     if e <= i {
-        return 0;
+        return How::Finished;
     }
     let less = left - 1;
     let m = nodes::end_at(t, i, e);
-    let h = one(t, word, inputs, i, m, less, b, o);
-    if h == 0 {
-        return list(t, word, inputs, m, e, less, b, o);
+    match one(t, r, i, m, less, b, o) {
+        How::Finished => list(t, r, m, e, less, b, o),
+        h => o.then_at(b, m, e, h),
     }
-    runs::then_at(o, b, m, e, h)
 }
 
 // The cases from i to e.
 #[cycle(branches_cases_choice_list_one)]
-pub fn cases(
-    t: &[u8; 16384],
-    word: u32,
-    inputs: u32,
-    i: u16,
-    e: u16,
-    left: u16,
-    b: u16,
-    o: &mut [u32; 11],
-) -> u8
+pub fn cases(t: &Tree, r: Reads, i: u16, e: u16, left: u16, b: u16, o: &mut Buffer) -> How
     requires { GoodCases (width_at t.now) (looks_at t.now) (cases_at left t.now i e) × ((3 * (e - i) < left) × ((b + activities_cases (cases_at left t.now i e) ≤ 8) × Open o.old b)) }
-    ensures { Comes (start_cases (cases_at left t.now i e) (record { word = word; inputs = inputs })) (start_cases_seen (cases_at left t.now i e) (record { word = word; inputs = inputs })) b o.old o.new result }
+    ensures { Comes (start_cases (cases_at left t.now i e) (reads r)) (start_cases_seen (cases_at left t.now i e) (reads r)) b o.old o.new result }
 {
     if e <= i {
-        return 0;
+        return How::Finished;
     }
     let less = left - 1;
-    let a = nodes::among_at(t, i);
-    match a {
-        Among::Default => list(t, word, inputs, i, e, less, b, o),
+    match nodes::among_at(t, i) {
+        Among::Default => list(t, r, i, e, less, b, o),
         Among::Test(x, m) => {
             let k = nodes::kept(m, i, e);
-            if waits::holds(t, word, inputs, i, x, o) {
-                let h = list(t, word, inputs, i + 1, k, less, b, o);
-                if h == 0 {
-                    return cases(t, word, inputs, k, e, less, b, o);
-                }
-                return runs::then_at(o, b, k, e, h);
+            if !waits::holds(t, r, i, x, o) {
+                return cases(t, r, k, e, less, b, o);
             }
-            cases(t, word, inputs, k, e, less, b, o)
+            match list(t, r, i + 1, k, less, b, o) {
+                How::Finished => cases(t, r, k, e, less, b, o),
+                h => o.then_at(b, k, e, h),
+            }
         }
     }
 }
@@ -146,35 +120,34 @@ pub fn cases(
 // The branches from i to e of a parallel whose first activity is base, after those that ended as how.
 #[cycle(branches_cases_choice_list_one)]
 fn branches(
-    t: &[u8; 16384],
-    word: u32,
-    inputs: u32,
+    t: &Tree,
+    r: Reads,
     i: u16,
     e: u16,
     left: u16,
     b: u16,
     base: u16,
-    how: u8,
+    how: How,
     ones: u32,
     zeros: u32,
-    o: &mut [u32; 11],
-) -> u8
+    o: &mut Buffer,
+) -> How
     requires { GoodEach (width_at t.now) (looks_at t.now) (branches_at left t.now i e) × ((3 * (e - i) < left) × ((b + activities_sum (branches_at left t.now i e) ≤ 8) × ((base ≤ b) × Open o.old b))) }
-    ensures { Joins base how ones zeros b (start_each (branches_at left t.now i e) (record { word = word; inputs = inputs })) (start_each_seen (branches_at left t.now i e) (record { word = word; inputs = inputs })) o.old o.new result }
+    ensures { Joins base how ones zeros b (start_each (branches_at left t.now i e) (reads r)) (start_each_seen (branches_at left t.now i e) (reads r)) o.old o.new result }
 {
     if e <= i {
-        return runs::closed(o, how, ones, zeros);
+        return o.closed(how, ones, zeros);
     }
     let less = left - 1;
     let m = nodes::branch_end_at(t, i, e);
-    let h = list(t, word, inputs, i, m, less, b, o);
-    if runs::is_jump(h) {
-        runs::wipe(o, base, b);
+    let h = list(t, r, i, m, less, b, o);
+    if h.is_jump() {
+        o.wipe(base);
         return h;
     }
-    let a = b + nodes::width_at(t, i) as u16;
-    let so = runs::later(how, h);
-    let on = runs::gathered(ones, o[8], h);
-    let off = runs::gathered(zeros, o[9], h);
-    branches(t, word, inputs, m, e, less, a, base, so, on, off, o)
+    let a = b + u16::from(nodes::width_at(t, i));
+    let so = how.later(h);
+    let on = h.gathered(ones, o.ones);
+    let off = h.gathered(zeros, o.zeros);
+    branches(t, r, m, e, less, a, base, so, on, off, o)
 }

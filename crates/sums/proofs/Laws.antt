@@ -9,8 +9,7 @@ use Rattle.nodes.specs.Fit.{size_of, Fit}
 use Rattle.nodes.specs.declared.Sum.{Sum}
 use Rattle.nodes.specs.declared.Sum.TheVariants.{Plus, Minus, Times, Quotient, Remainder}
 use Rattle.nodes.proofs.Laws.{expr_opened, expr_empty}
-use Rattle.value.specs.declared.Term.{Term}
-use Rattle.value.specs.declared.Term.TheVariants.{Added}
+use Rattle.std.specs.Prelude.{Option, Some}
 use Rattle.value.specs.Row.{adds, term_of}
 use Rattle.value.proofs.Laws.{no_bool, adds-size, added}
 use Rattle.sums.specs.Wrapped.{RightSide, joined_of}
@@ -51,7 +50,7 @@ none_added left t j r x h e = omega (arith, none_right left t j r e)
 
 -- ---- a row of `+` and `-` in the tree
 
-module _ (left : ℕ) (t : List ℕ) (j : ℕ) {n : Term} {o : Sum} {a b : ℕ} (h : left ≡ 0 → ⊥) (k : n ≡ term_of (kind_at t j)) (e : n ≡ Added o a b) where
+module _ (left : ℕ) (t : List ℕ) (j : ℕ) {n : Option (Sum × ℕ × ℕ)} {o : Sum} {a b : ℕ} (h : left ≡ 0 → ⊥) (k : n ≡ term_of (kind_at t j)) (e : n ≡ Some (o, a, b)) where
   abbrev first : Expr Variable
   first = expr_at (left - 1) t a
 

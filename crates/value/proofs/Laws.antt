@@ -9,12 +9,12 @@ use lib.Dec.{ltb}
 use borrow.Author.Tests.{le-ltb}
 use lib.IntN.{ℤ, pos, negsuc, neg_ℤ, nat_abs, ◌+ℤ◌, +ℤ_assoc, +ℤ_idl}
 use lib.Pow.{pow_pos, le_ones, pow_mono}
-use lib.Signed.{mag, lt_z}
+use lib.Signed.{mag}
 use mir.Syntax.{w64}
 use mir.Val.{of_z, to_z}
 use mir.ValLaws.{to_z-of_z}
 use Rattle.meaning.specs.Tree.{Arithmetic, plus, minus, times, quotient, remainder, Comparison, equal, unequal, greater, less, Logic, and, or, Expr, literal, truth, variable, bit, not, int, arithmetic, comparison, logic}
-use Rattle.meaning.specs.Numbers.{Variable, input, boolean, integer, Reads, Value, whole, bool, over, rest, is_one, whole_of, bool_of, same_whole, compute, compare, combine, as_number, read, read_bit, value}
+use Rattle.meaning.specs.Numbers.{Variable, input, boolean, integer, Reads, Value, whole, bool, over, rest, whole_of, bool_of, compute, compare, combine, as_number, read, read_bit, value}
 use Rattle.meaning.specs.Worst.{combined}
 use Rattle.ints.proofs.Laws.{abs_sum, abs_diff, abs_prod, abs_quot, abs_rem}
 use Rattle.nodes.specs.Layout.{half_at, part_base, kind_of, kind_at}
@@ -25,7 +25,7 @@ use Rattle.nodes.specs.declared.Sum.{Sum}
 use Rattle.nodes.specs.declared.Sum.TheVariants.{Plus, Minus, Times, Quotient, Remainder}
 use Rattle.nodes.specs.declared.Kind.{Kind}
 use Rattle.nodes.specs.declared.Kind.TheVariants as kinds
-use Rattle.value.specs.declared.Term.TheVariants.{Added, Other}
+use Rattle.std.specs.Prelude.{Option, Some, None}
 use Rattle.value.specs.Flat.{flat, truth_of, compare_z, decides}
 use Rattle.value.specs.Leaf.{is_leaf, Leaf, leaf_of}
 use Rattle.value.specs.Row.{adds, signed, term_of}
@@ -33,11 +33,6 @@ use Rattle.value.specs.Row.{adds, signed, term_of}
 -- a number that an i64 holds, read back from its bits
 pub through : (z : ℤ) → mag z < 9223372036854775808 → to_z w64 (of_z w64 z) ≡ z
 through z h = to_z-of_z w64 z (record { sfits = h })
-
-pub bit-number : (d : ℕ) → d < 2 → pos d ≡ as_number (is_one d)
-bit-number zero h = refl
-bit-number (suc zero) h = refl
-bit-number (suc (suc d)) h = absurd (omega arith)
 
 pub one_shifted : (w : ℕ) → w ≤ 16 → 1 * 2 ^ w % 4294967296 ≡ 2 ^ w
 one_shifted w h = ap (λ (x : ℕ). x % 4294967296) (one-mul (2 ^ w)) ∙ mod-eq_of_lt (omega (arith, pow_mono {i = w} {j = 16} h))
@@ -227,20 +222,6 @@ pub logic-second : (o : Logic) (p : ℕ) (a b : Expr Variable) (r : Reads) {x y 
 unfolding value
 logic-second o p a b r k l e d f = (f ∙ truth-flat b r l) ∙ second-decides o _ _ (rw (e ∙ truth-flat a r k) at d)
 
-pub truth-some : (x : ℤ) → (of_z w64 x ≡ 0 → ⊥) → truth_of x ≡ true
-truth-some (pos zero) h = absurd (h refl)
-truth-some (pos (suc n)) h = refl
-truth-some (negsuc n) h = refl
-
-pub same_less : (a b : ℤ) → lt_z a b ≡ true → false ≡ same_whole a b
-same_less a b h = rw h
-
-pub same_more : (a b : ℤ) → lt_z a b ≡ false → opposite (lt_z b a) ≡ same_whole a b
-same_more a b h = rw h
-
-pub less_of : {x y a b : ℤ} {r : Bool} → r ≡ lt_z x y → x ≡ a → y ≡ b → r ≡ lt_z a b
-less_of e p q = rw (← p, ← q) e
-
 -- ---- leaves
 
 -- the kind that was read
@@ -295,10 +276,19 @@ leaf_is (kinds.Logic o a b) d p r e = no_bool e
 pub none_more : (n : ℕ) → n < 2147483648 → 0 + n < 2147483648
 none_more n h = omega arith
 
-no_row : {A : Type 0} {o : Sum} {a b : ℕ} → Other ≡ Added o a b → A
+no_row : {A : Type 0} {o : Sum} {a b : ℕ} → ◌≡◌ {A = Option (Sum × ℕ × ℕ)} None (Some (o, a, b)) → A
 no_row e = absurd (let z : ◌≡◌ {A = ℕ} 0 1 = cc in omega arith)
 
-pub added : (k : Kind) {o : Sum} {a b : ℕ} → term_of k ≡ Added o a b → (k ≡ kinds.Arithmetic o a b) × (adds o ≡ true)
+-- the part with such a row
+abbrev part_with : Option (Sum × ℕ × ℕ) → Kind
+part_with None = kinds.Literal 0
+part_with (Some x) = kinds.Arithmetic x.0 x.1 x.2
+
+abbrev adds_in : Option (Sum × ℕ × ℕ) → Bool
+adds_in None = false
+adds_in (Some x) = adds x.0
+
+pub added : (k : Kind) {o : Sum} {a b : ℕ} → term_of k ≡ Some (o, a, b) → (k ≡ kinds.Arithmetic o a b) × (adds o ≡ true)
 added (kinds.Literal n) e = no_row e
 added (kinds.Truth b) e = no_row e
 added (kinds.Input i) e = no_row e
@@ -307,8 +297,8 @@ added (kinds.Integer low width) e = no_row e
 added (kinds.Bit low width j) e = no_row e
 added (kinds.Not a) e = no_row e
 added (kinds.Int a) e = no_row e
-added (kinds.Arithmetic Plus a b) e = (cc, cc)
-added (kinds.Arithmetic Minus a b) e = (cc, cc)
+added (kinds.Arithmetic Plus a b) e = (ap part_with e, sym (ap adds_in e))
+added (kinds.Arithmetic Minus a b) e = (ap part_with e, sym (ap adds_in e))
 added (kinds.Arithmetic Times a b) e = no_row e
 added (kinds.Arithmetic Quotient a b) e = no_row e
 added (kinds.Arithmetic Remainder a b) e = no_row e

@@ -1,3 +1,4 @@
 pub mod Flat
 pub mod Leaf
 pub mod Row
+pub mod Read

@@ -2,50 +2,49 @@
 #![tactic(auto)]
 
 ghost use Rattle.std.specs.Prelude.{◌≡◌, ℕ, ◌+◌, ◌<◌, ◌≤◌, ◌^◌, ◌/◌, ◌%◌, true, not as opposite, ℤ, pos, nat_abs, ◌+ℤ◌};
-ghost use Rattle.meaning.specs.Numbers.{bit_of, as_number, same_whole, compute, value};
+ghost use Rattle.meaning.specs.Numbers.{bit_of, as_number, compute, value};
 ghost use Rattle.meaning.specs.Worst.{combined};
 ghost use Rattle.nodes.specs.Layout.{kind_at};
 ghost use Rattle.nodes.specs.Decode.{sum, test, link, expr_at};
 ghost use Rattle.nodes.specs.Fit.{is_whole, size_of, Fit};
 ghost use Rattle.value.specs.Flat.{flat, truth_of, compare_z, decides};
 ghost use Rattle.value.specs.Leaf.{is_leaf, Leaf, leaf_of};
+ghost use Rattle.value.specs.Read.{reads};
 ghost use Rattle.value.specs.Row.{adds, signed, row_of, term_of};
 
-use nodes::{Kind, Link, Sum, Test};
+use nodes::{Kind, Link, Sum, Test, Tree};
 
-pub fn flag(b: bool) -> i64
-    ensures { result ≡ as_number b }
-{
-    if b { 1 } else { 0 }
+// What an expression reads: the word of the state, and the inputs.
+#[derive(Clone, Copy)]
+pub struct Reads {
+    pub word: u32,
+    pub inputs: u32,
 }
 
 pub fn truth(x: i64) -> bool
     ensures { result ≡ truth_of x }
 {
-    if x == 0 {
-        return false;
-    }
-    true
+    x != 0
 }
 
 fn flipped(x: i64) -> i64
     ensures { result ≡ as_number (opposite (truth_of x)) }
 {
-    flag(!truth(x))
+    i64::from(!truth(x))
 }
 
 fn bit_of(n: u32, j: u16) -> i64
     requires { j < 32 }
     ensures { result ≡ as_number (bit_of n j) }
 {
-    ints::of((n >> j as u32) % 2)
+    i64::from((n >> j) % 2)
 }
 
 fn field_of(n: u32, low: u16, width: u16) -> i64
     requires { (low < 32) × (width ≤ 16) }
     ensures { result ≡ pos (n / 2 ^ low % 2 ^ width) }
 {
-    ints::of((n >> low as u32) & ((1u32 << width as u32) - 1))
+    i64::from((n >> low) & ((1u32 << width) - 1))
 }
 
 fn computed(o: Sum, a: i64, b: i64) -> i64
@@ -65,13 +64,7 @@ fn computed(o: Sum, a: i64, b: i64) -> i64
 fn is_added(o: Sum) -> bool
     ensures { result ≡ adds o }
 {
-    match o {
-        Sum::Plus => true,
-        Sum::Minus => true,
-        Sum::Times => false,
-        Sum::Quotient => false,
-        Sum::Remainder => false,
-    }
+    matches!(o, Sum::Plus | Sum::Minus)
 }
 
 // What `+` or `-` adds.
@@ -80,31 +73,19 @@ fn with_sign(o: Sum, y: i64) -> i64
     ensures { result ≡ signed o y }
 {
     match o {
-        Sum::Plus => y,
         Sum::Minus => ints::minus(0, y),
-        Sum::Times => y,
-        Sum::Quotient => y,
-        Sum::Remainder => y,
+        _ => y,
     }
-}
-
-fn same(a: i64, b: i64) -> bool
-    ensures { result ≡ same_whole a b }
-{
-    if a < b {
-        return false;
-    }
-    !ints::below(b, a)
 }
 
 fn compared(o: Test, a: i64, b: i64) -> i64
     ensures { result ≡ as_number (compare_z (test o) a b) }
 {
     match o {
-        Test::Equal => flag(same(a, b)),
-        Test::Unequal => flag(!same(a, b)),
-        Test::Greater => flag(ints::below(b, a)),
-        Test::Less => flag(ints::below(a, b)),
+        Test::Equal => i64::from(a == b),
+        Test::Unequal => i64::from(a != b),
+        Test::Greater => i64::from(a > b),
+        Test::Less => i64::from(a < b),
     }
 }
 
@@ -117,151 +98,117 @@ fn decided(o: Link, x: i64) -> bool
     }
 }
 
-fn is_leaf(t: &[u8; 16384], j: u16) -> bool
+fn is_leaf(t: &Tree, j: u16) -> bool
     ensures { result ≡ is_leaf (kind_at t.now j) }
 {
     t[8192 + j as usize % 1024 * 8] < 7
 }
 
-fn leaf(t: &[u8; 16384], word: u32, inputs: u32, j: u16) -> i64
+fn leaf(t: &Tree, r: Reads, j: u16) -> i64
     requires { Leaf (kind_at t.now j) }
-    ensures { result ≡ leaf_of (kind_at t.now j) (record { word = word; inputs = inputs }) }
+    ensures { result ≡ leaf_of (kind_at t.now j) (reads r) }
 {
-    let n = nodes::part_at(t, j);
-    let k = n.kind;
-    match k {
-        Kind::Literal(v) => ints::of(v as u32),
-        Kind::Truth(b) => flag(b),
-        Kind::Input(i) => bit_of(inputs, i),
-        Kind::Boolean(i) => bit_of(word, i),
-        Kind::Integer(low, width) => field_of(word, low, width),
-        Kind::Bit(low, _, i) => bit_of(word, low + i),
-        Kind::Not(_) => 0,
-        Kind::Int(_) => 0,
-        Kind::Arithmetic(_, _, _) => 0,
-        Kind::Comparison(_, _, _) => 0,
-        Kind::Logic(_, _, _) => 0,
+    match nodes::part_at(t, j).kind {
+        Kind::Literal(v) => i64::from(v),
+        Kind::Truth(b) => i64::from(b),
+        Kind::Input(i) => bit_of(r.inputs, i),
+        Kind::Boolean(i) => bit_of(r.word, i),
+        Kind::Integer(low, width) => field_of(r.word, low, width),
+        Kind::Bit(low, _, i) => bit_of(r.word, low + i),
+        _ => 0,
     }
 }
 
-// A part of a row of `+` and `-`: its operator and operands; or something else.
-#[derive(Clone, Copy)]
-pub enum Term {
-    Added(Sum, u16, u16),
-    Other,
-}
+// The operator and operands of a part of a row of `+` and `-`.
+pub type Added = (Sum, u16, u16);
 
-fn row_of(o: Sum, a: u16, b: u16) -> Term
+fn row_of(o: Sum, a: u16, b: u16) -> Option<Added>
     ensures { result ≡ row_of o a b }
 {
     match o {
-        Sum::Plus => Term::Added(Sum::Plus, a, b),
-        Sum::Minus => Term::Added(Sum::Minus, a, b),
-        Sum::Times => Term::Other,
-        Sum::Quotient => Term::Other,
-        Sum::Remainder => Term::Other,
+        Sum::Plus | Sum::Minus => Some((o, a, b)),
+        _ => None,
     }
 }
 
-fn term_of(k: Kind) -> Term
+fn term_of(k: Kind) -> Option<Added>
     ensures { result ≡ term_of k }
 {
     match k {
-        Kind::Literal(_) => Term::Other,
-        Kind::Truth(_) => Term::Other,
-        Kind::Input(_) => Term::Other,
-        Kind::Boolean(_) => Term::Other,
-        Kind::Integer(_, _) => Term::Other,
-        Kind::Bit(_, _, _) => Term::Other,
-        Kind::Not(_) => Term::Other,
-        Kind::Int(_) => Term::Other,
         Kind::Arithmetic(o, a, b) => row_of(o, a, b),
-        Kind::Comparison(_, _, _) => Term::Other,
-        Kind::Logic(_, _, _) => Term::Other,
+        _ => None,
     }
 }
 
-pub fn term_at(t: &[u8; 16384], j: u16) -> Term
+pub fn term_at(t: &Tree, j: u16) -> Option<Added>
     ensures { result ≡ term_of (kind_at t.now j) }
 {
-    let n = nodes::part_at(t, j);
-    let k = n.kind;
-    term_of(k)
+    term_of(nodes::part_at(t, j).kind)
 }
 
 // A leaf takes no call of its own.
 #[cycle(operand_row_value)]
-pub fn operand(t: &[u8; 16384], word: u32, inputs: u32, j: u16, left: u16) -> i64
+pub fn operand(t: &Tree, r: Reads, j: u16, left: u16) -> i64
     requires { Fit (expr_at left t.now j) }
-    ensures { result ≡ flat (value (expr_at left t.now j) (record { word = word; inputs = inputs })) }
+    ensures { result ≡ flat (value (expr_at left t.now j) (reads r)) }
 {
     if left == 0 {
         return 0;
     }
     if is_leaf(t, j) {
-        return leaf(t, word, inputs, j);
+        return leaf(t, r, j);
     }
-    value(t, word, inputs, j, left)
+    value(t, r, j, left)
 }
 
 // The value of j and x: a row of `+` and `-` is added up from its end, with no call for each.
+// The calls go down a tree and count no index: a loop would need the contract of each call again as its invariant.
 #[cycle(operand_row_value)]
-fn row(t: &[u8; 16384], word: u32, inputs: u32, j: u16, left: u16, x: i64) -> i64
+fn row(t: &Tree, r: Reads, j: u16, left: u16, x: i64) -> i64
     requires { Fit (expr_at left t.now j) × ((is_whole (expr_at left t.now j) ≡ true) × (size_of (expr_at left t.now j) + nat_abs x < 2147483648)) }
-    ensures { result ≡ flat (value (expr_at left t.now j) (record { word = word; inputs = inputs })) +ℤ x }
+    ensures { result ≡ flat (value (expr_at left t.now j) (reads r)) +ℤ x }
 {
     if left == 0 {
         return x;
     }
     let less = left - 1;
-    let n = term_at(t, j);
-    match n {
-        Term::Added(o, a, b) => {
-            let y = with_sign(o, operand(t, word, inputs, b, less));
-            row(t, word, inputs, a, less, ints::plus(y, x))
+    match term_at(t, j) {
+        Some((o, a, b)) => {
+            let y = with_sign(o, operand(t, r, b, less));
+            row(t, r, a, less, ints::plus(y, x))
         }
-        Term::Other => ints::plus(operand(t, word, inputs, j, left), x),
+        None => ints::plus(operand(t, r, j, left), x),
     }
 }
 
 #[cycle(operand_row_value)]
-pub fn value(t: &[u8; 16384], word: u32, inputs: u32, j: u16, left: u16) -> i64
+pub fn value(t: &Tree, r: Reads, j: u16, left: u16) -> i64
     requires { Fit (expr_at left t.now j) }
-    ensures { result ≡ flat (value (expr_at left t.now j) (record { word = word; inputs = inputs })) }
+    ensures { result ≡ flat (value (expr_at left t.now j) (reads r)) }
 {
     if left == 0 {
         return 0;
     }
     let less = left - 1;
     let n = nodes::part_at(t, j);
-    let k = n.kind;
-    match k {
-        Kind::Literal(_) => leaf(t, word, inputs, j),
-        Kind::Truth(_) => leaf(t, word, inputs, j),
-        Kind::Input(_) => leaf(t, word, inputs, j),
-        Kind::Boolean(_) => leaf(t, word, inputs, j),
-        Kind::Integer(_, _) => leaf(t, word, inputs, j),
-        Kind::Bit(_, _, _) => leaf(t, word, inputs, j),
-        Kind::Not(a) => flipped(operand(t, word, inputs, a, less)),
-        Kind::Int(a) => operand(t, word, inputs, a, less),
+    match n.kind {
+        Kind::Not(a) => flipped(operand(t, r, a, less)),
+        Kind::Int(a) => operand(t, r, a, less),
         Kind::Arithmetic(o, a, b) => {
-            let y = operand(t, word, inputs, b, less);
+            let y = operand(t, r, b, less);
             if is_added(o) {
-                return row(t, word, inputs, a, less, with_sign(o, y));
+                return row(t, r, a, less, with_sign(o, y));
             }
-            computed(o, operand(t, word, inputs, a, less), y)
+            computed(o, operand(t, r, a, less), y)
         }
-        Kind::Comparison(o, a, b) => compared(
-            o,
-            operand(t, word, inputs, a, less),
-            operand(t, word, inputs, b, less),
-        ),
+        Kind::Comparison(o, a, b) => compared(o, operand(t, r, a, less), operand(t, r, b, less)),
         Kind::Logic(o, a, b) => {
-            let x = operand(t, word, inputs, a, less);
+            let x = operand(t, r, a, less);
             if decided(o, x) {
                 return x;
             }
-            operand(t, word, inputs, b, less)
+            operand(t, r, b, less)
         }
+        _ => leaf(t, r, j),
     }
 }

@@ -1,3 +1,4 @@
+use Rattle.std.proofs.Common.{rules}
 use mathlib.Core.Path.{◌≡◌, refl, ap, sym, ◌∙◌}
 use Prim.Native.Nat.{◌-◌, ◌+◌, ◌≤◌}
 use native.Mathlib.Omega.{arith}
@@ -10,8 +11,7 @@ use Rattle.nodes.specs.declared.Shape.TheVariants.{Waiting, Either, Repeat, Test
 use Rattle.nodes.specs.Layout.{within, what_at, shape_of}
 use Rattle.nodes.specs.Decode.{head_at, list_at, cases_at}
 use Rattle.runs.specs.Run.{window}
-use Rattle.runs.specs.Buffer.{entries_in, ones_in, zeros_in}
-use Rattle.runs.proofs.Comes.{still_open, comes_as, comes_then, comes_on, comes_again, comes_round, joins-none, jump_open, joins_jump, joins-next}
+use Rattle.runs.proofs.Comes.{still_open, comes_as, comes_then, comes_on, comes_again, comes_round, joins-none, joins_jump, joins-next}
 use Rattle.start.proofs.Laws.{Listed, listed, list-good, list-first-wide, list-rest-wide, some-list, some-case, Defaulted, defaulted, default-good, default_wide, Tested, tested, test_good, test-first-wide, test-rest-wide, Branched, branched, branch_good, branch_wide}
 use Rattle.resume.proofs.Laws.{from, deeper, further, fewer, list-outside, list_then, list-later, default_is, case-head, case_then, case-later, no_branches, branch_open, branch_beside, wait_is, wait_wide, wait_short, repeat_is, tests_is, together_is, shape_number, waiting_as, inner_as, starts, Eithered, eithered, either-good, either-first-wide, either-rest-wide, either_first, either_second, Repeated, repeat_again, Switched, switch-good, switch-wide, switch_in, Paralleled, parallel-good, parallel-wide, parallel_in}
 use Prim.Native.Nat.{ℕ}
@@ -37,15 +37,15 @@ module _ (t : ℕ) (c : list-After-end_at-k t) where
 
 module _ (t : ℕ) (c : cases-In-Default t) where
   df : Defaulted c.args.left c.args.t.now c.args.i c.args.e
-  df = defaulted c.args.left c.args.t.now c.args.i c.args.e (let z : c.args.i ≤ c.args.m = from c.requires.1.1.1 (omega arith) in omega arith) c.requires.1.1.0 c.among_at-a.ensures c.in-Default.is
+  df = defaulted c.args.left c.args.t.now c.args.i c.args.e (let z : c.args.i ≤ c.args.m = from c.requires.1.1.1 (omega arith) in omega arith) c.requires.1.1.0 c.among_at.ensures c.in-Default.is
 
 module _ (t : ℕ) (c : cases-In-Test t) where
   th : Tested c.args.left c.args.t.now c.args.i c.args.e c.in-Test.field-0 (within c.in-Test.n c.args.i c.args.e)
-  th = tested c.args.left c.args.t.now c.args.i c.args.e _ c.in-Test.n _ (let z : c.args.i ≤ c.args.m = from c.requires.1.1.1 (omega arith) in omega arith) c.requires.1.1.0 c.among_at-a.ensures c.in-Test.is refl
+  th = tested c.args.left c.args.t.now c.args.i c.args.e _ c.in-Test.n _ (let z : c.args.i ≤ c.args.m = from c.requires.1.1.1 (omega arith) in omega arith) c.requires.1.1.0 c.among_at.ensures c.in-Test.is refl
 
 module _ (t : ℕ) (c : cases-After-kept-k t) where
   ts : Tested c.args.left c.args.t.now c.args.i c.args.e c.in-Test.field-0 c.kept-k.result
-  ts = tested c.args.left c.args.t.now c.args.i c.args.e _ c.in-Test.n _ (let z : c.args.i ≤ c.args.m = from c.requires.1.1.1 (omega arith) in omega arith) c.requires.1.1.0 c.among_at-a.ensures c.in-Test.is c.kept-k.ensures
+  ts = tested c.args.left c.args.t.now c.args.i c.args.e _ c.in-Test.n _ (let z : c.args.i ≤ c.args.m = from c.requires.1.1.1 (omega arith) in omega arith) c.requires.1.1.0 c.among_at.ensures c.in-Test.is c.kept-k.ensures
 
 module _ (t : ℕ) (c : one-After-shape_from t) where
   -- an activity stands in a part of the statement
@@ -84,233 +84,175 @@ module _ (t : ℕ) (c : one-In-Together t) where
   pa = record { small = let z : c.args.i ≤ c.args.m = from c.requires.1.1.1 (omega arith) in omega arith; is = together_is c.args.left c.args.t.now c.args.i c.args.e (let z : c.args.i ≤ c.args.m = from c.requires.1.1.1 (omega arith) in omega arith) c.requires.1.1.0 refl pao.1 }
 
 pub branches-closed-requires : goal.branches-closed-requires
-unfolding ones_in zeros_in
 branches-closed-requires t c = c.requires.1.1.1.1.1.0.long
 
 pub branches-returns-then-e-i : goal.branches-returns-then-e-i
-unfolding ones_in zeros_in
-branches-returns-then-e-i t c = no_branches c.args.left c.args.t.now c.args.i c.args.e (window (entries_in c.args.old.now) c.args.b c.args.w) (record { word = c.args.word; inputs = c.args.inputs }) c.if-e-i.true (joins-none c.closed.ensures)
+branches-returns-then-e-i t c = no_branches c.args.left c.args.t.now c.args.i c.args.e (window c.args.old.now c.args.b c.args.w) (record { word = c.args.r.word; inputs = c.args.r.inputs }) c.if-e-i.true (joins-none c.closed.ensures)
 
 pub branches-least_at-m-requires : goal.branches-least_at-m-requires
-unfolding ones_in zeros_in
-branches-least_at-m-requires t c = ((omega (arith, branch_wide (br t (goal.at.branches-least_at-m-requires t c).After-branch_end_at-k), (c.width_at-wide.ensures ∙ (branch_good (br t (goal.at.branches-least_at-m-requires t c).After-branch_end_at-k) c.requires.0).0), c.requires.1.1.1.0, c.requires.1.1.0)), c.requires.1.1.1.1.1.1.1)
+branches-least_at-m-requires t c = ((omega (arith, branch_wide (br t (goal.at.branches-least_at-m-requires t c).After-branch_end_at-k), (c.from-wide.ensures ∙ c.width_at.ensures ∙ (branch_good (br t (goal.at.branches-least_at-m-requires t c).After-branch_end_at-k) c.requires.0).0), c.requires.1.1.1.0, c.requires.1.1.0)), c.requires.1.1.1.1.1.1.1)
 
 pub branches-list-h-requires : goal.branches-list-h-requires
-unfolding ones_in zeros_in
-branches-list-h-requires t c = let x = (br t (goal.at.branches-list-h-requires t c).After-branch_end_at-k) in (omega arith, ((branch_good x c.requires.0).1.0, (omega arith, (record { leaves = c.requires.1.1.1.1.1.1.0; room = (omega (arith, branch_wide (br t (goal.at.branches-list-h-requires t c).After-branch_end_at-k), (c.width_at-wide.ensures ∙ (branch_good (br t (goal.at.branches-list-h-requires t c).After-branch_end_at-k) c.requires.0).0), c.requires.1.1.1.0, c.requires.1.1.0)); wide = omega (arith, (c.width_at-wide.ensures ∙ (branch_good (br t (goal.at.branches-list-h-requires t c).After-branch_end_at-k) c.requires.0).0)); kept = c.requires.1.1.1.1.1.1.1; free = c.requires.1.1.1.1.1.0; is_least = c.least_at-m.ensures }))))
+branches-list-h-requires t c = let x = (br t (goal.at.branches-list-h-requires t c).After-branch_end_at-k) in (omega arith, ((branch_good x c.requires.0).1.0, (omega arith, (record { leaves = c.requires.1.1.1.1.1.1.0; room = (omega (arith, branch_wide (br t (goal.at.branches-list-h-requires t c).After-branch_end_at-k), (c.from-wide.ensures ∙ c.width_at.ensures ∙ (branch_good (br t (goal.at.branches-list-h-requires t c).After-branch_end_at-k) c.requires.0).0), c.requires.1.1.1.0, c.requires.1.1.0)); wide = omega (arith, (c.from-wide.ensures ∙ c.width_at.ensures ∙ (branch_good (br t (goal.at.branches-list-h-requires t c).After-branch_end_at-k) c.requires.0).0)); kept = c.requires.1.1.1.1.1.1.1; free = c.requires.1.1.1.1.1.0; is_least = c.least_at-m.ensures }))))
 
 pub branches-wipe-requires : goal.branches-wipe-requires
-unfolding ones_in zeros_in
-branches-wipe-requires t c = (c.requires.1.1.1.1.0, (omega (arith, c.requires.1.1.0), jump_open c.list-h.ensures c.is_jump.ensures c.if-is_jump.true c.requires.1.1.1.1.1.0))
+branches-wipe-requires t c = (omega (arith, c.requires.1.1.0, c.requires.1.1.1.1.0), c.list-h.ensures.holds.long)
 
 pub branches-returns-then-is_jump : goal.branches-returns-then-is_jump
-unfolding ones_in zeros_in
-branches-returns-then-is_jump t c = joins_jump c.list-h.ensures c.is_jump.ensures c.requires.1.1.1.1.0 (branch_beside (br t (goal.at.branches-returns-then-is_jump t c).After-branch_end_at-k) c.args.old.now c.args.b c.args.w (record { word = c.args.word; inputs = c.args.inputs }) (c.width_at-wide.ensures ∙ (branch_good (br t (goal.at.branches-returns-then-is_jump t c).After-branch_end_at-k) c.requires.0).0) (omega (arith, branch_wide (br t (goal.at.branches-returns-then-is_jump t c).After-branch_end_at-k), (c.width_at-wide.ensures ∙ (branch_good (br t (goal.at.branches-returns-then-is_jump t c).After-branch_end_at-k) c.requires.0).0), c.requires.1.1.1.0, c.requires.1.1.0))) c.if-is_jump.true c.wipe.ensures
+branches-returns-then-is_jump t c = joins_jump c.list-h.ensures c.is_jump.ensures c.requires.1.1.1.1.0 (branch_beside (br t (goal.at.branches-returns-then-is_jump t c).After-branch_end_at-k) c.args.old.now c.args.b c.args.w (record { word = c.args.r.word; inputs = c.args.r.inputs }) (c.from-wide.ensures ∙ c.width_at.ensures ∙ (branch_good (br t (goal.at.branches-returns-then-is_jump t c).After-branch_end_at-k) c.requires.0).0) (omega (arith, branch_wide (br t (goal.at.branches-returns-then-is_jump t c).After-branch_end_at-k), (c.from-wide.ensures ∙ c.width_at.ensures ∙ (branch_good (br t (goal.at.branches-returns-then-is_jump t c).After-branch_end_at-k) c.requires.0).0), c.requires.1.1.1.0, c.requires.1.1.0))) c.if-is_jump.true c.wipe.ensures
 
 pub branches-overflow_add-a : goal.branches-overflow_add-a
-unfolding ones_in zeros_in
-branches-overflow_add-a t c = omega (arith, branch_wide (br t (goal.at.branches-overflow_add-a t c).After-branch_end_at-k), (c.width_at-wide.ensures ∙ (branch_good (br t (goal.at.branches-overflow_add-a t c).After-branch_end_at-k) c.requires.0).0), c.requires.1.1.1.0, c.requires.1.1.0)
+branches-overflow_add-a t c = omega (arith, branch_wide (br t (goal.at.branches-overflow_add-a t c).After-branch_end_at-k), (c.from-wide.ensures ∙ c.width_at.ensures ∙ (branch_good (br t (goal.at.branches-overflow_add-a t c).After-branch_end_at-k) c.requires.0).0), c.requires.1.1.1.0, c.requires.1.1.0)
 
 pub branches-overflow_sub-v : goal.branches-overflow_sub-v
-unfolding ones_in zeros_in
-branches-overflow_sub-v t c = omega (arith, branch_wide (br t (goal.at.branches-overflow_sub-v t c).After-branch_end_at-k), (c.width_at-wide.ensures ∙ (branch_good (br t (goal.at.branches-overflow_sub-v t c).After-branch_end_at-k) c.requires.0).0), c.requires.1.1.1.0, c.requires.1.1.0)
+branches-overflow_sub-v t c = omega (arith, branch_wide (br t (goal.at.branches-overflow_sub-v t c).After-branch_end_at-k), (c.from-wide.ensures ∙ c.width_at.ensures ∙ (branch_good (br t (goal.at.branches-overflow_sub-v t c).After-branch_end_at-k) c.requires.0).0), c.requires.1.1.1.0, c.requires.1.1.0)
 
 pub branches-branches-requires : goal.branches-branches-requires
-unfolding ones_in zeros_in
-branches-branches-requires t c = let x = (br t (goal.at.branches-branches-requires t c).After-branch_end_at-k) in (omega arith, ((branch_good x c.requires.0).1.1, (omega arith, ((omega (arith, branch_wide (br t (goal.at.branches-branches-requires t c).After-branch_end_at-k), (c.width_at-wide.ensures ∙ (branch_good (br t (goal.at.branches-branches-requires t c).After-branch_end_at-k) c.requires.0).0), c.requires.1.1.1.0, c.requires.1.1.0)), ((omega (arith, branch_wide (br t (goal.at.branches-branches-requires t c).After-branch_end_at-k), (c.width_at-wide.ensures ∙ (branch_good (br t (goal.at.branches-branches-requires t c).After-branch_end_at-k) c.requires.0).0), c.requires.1.1.1.0, c.requires.1.1.0)), (omega (arith, c.requires.1.1.1.1.0), (branch_open x c.args.old.now c.args.b c.args.w (record { word = c.args.word; inputs = c.args.inputs }) (c.width_at-wide.ensures ∙ (branch_good (br t (goal.at.branches-branches-requires t c).After-branch_end_at-k) c.requires.0).0) c.list-h.ensures c.requires.1.1.1.1.1.0, (c.requires.1.1.1.1.1.1.0, (c.requires.1.1.1.1.1.1.1)))))))))
+branches-branches-requires t c = let x = (br t (goal.at.branches-branches-requires t c).After-branch_end_at-k) in (omega arith, ((branch_good x c.requires.0).1.1, (omega arith, ((omega (arith, branch_wide (br t (goal.at.branches-branches-requires t c).After-branch_end_at-k), (c.from-wide.ensures ∙ c.width_at.ensures ∙ (branch_good (br t (goal.at.branches-branches-requires t c).After-branch_end_at-k) c.requires.0).0), c.requires.1.1.1.0, c.requires.1.1.0)), ((omega (arith, branch_wide (br t (goal.at.branches-branches-requires t c).After-branch_end_at-k), (c.from-wide.ensures ∙ c.width_at.ensures ∙ (branch_good (br t (goal.at.branches-branches-requires t c).After-branch_end_at-k) c.requires.0).0), c.requires.1.1.1.0, c.requires.1.1.0)), (omega (arith, c.requires.1.1.1.1.0), (branch_open x c.args.old.now c.args.b c.args.w (record { word = c.args.r.word; inputs = c.args.r.inputs }) (c.from-wide.ensures ∙ c.width_at.ensures ∙ (branch_good (br t (goal.at.branches-branches-requires t c).After-branch_end_at-k) c.requires.0).0) c.list-h.ensures c.requires.1.1.1.1.1.0, (c.requires.1.1.1.1.1.1.0, (c.requires.1.1.1.1.1.1.1)))))))))
 
 pub branches-returns : goal.branches-returns
-unfolding ones_in zeros_in
-branches-returns t c = joins-next c.list-h.ensures c.is_jump.ensures c.requires.1.1.1.1.0 (branch_beside (br t (goal.at.branches-returns t c).After-branch_end_at-k) c.args.old.now c.args.b c.args.w (record { word = c.args.word; inputs = c.args.inputs }) (c.width_at-wide.ensures ∙ (branch_good (br t (goal.at.branches-returns t c).After-branch_end_at-k) c.requires.0).0) (omega (arith, branch_wide (br t (goal.at.branches-returns t c).After-branch_end_at-k), (c.width_at-wide.ensures ∙ (branch_good (br t (goal.at.branches-returns t c).After-branch_end_at-k) c.requires.0).0), c.requires.1.1.1.0, c.requires.1.1.0))) c.if-is_jump.false c.later-so.ensures c.gathered-on.ensures c.gathered-off.ensures c.branches.ensures
+branches-returns t c = joins-next c.list-h.ensures c.is_jump.ensures c.requires.1.1.1.1.0 (branch_beside (br t (goal.at.branches-returns t c).After-branch_end_at-k) c.args.old.now c.args.b c.args.w (record { word = c.args.r.word; inputs = c.args.r.inputs }) (c.from-wide.ensures ∙ c.width_at.ensures ∙ (branch_good (br t (goal.at.branches-returns t c).After-branch_end_at-k) c.requires.0).0) (omega (arith, branch_wide (br t (goal.at.branches-returns t c).After-branch_end_at-k), (c.from-wide.ensures ∙ c.width_at.ensures ∙ (branch_good (br t (goal.at.branches-returns t c).After-branch_end_at-k) c.requires.0).0), c.requires.1.1.1.0, c.requires.1.1.0))) c.if-is_jump.false c.later-so.ensures c.gathered-on.ensures c.gathered-off.ensures c.branches.ensures
 
 pub cases-list-requires : goal.cases-list-requires
-unfolding ones_in zeros_in
 cases-list-requires t c = let z = cases_lt t (goal.at.cases-list-requires t c).Start in let x = df t (goal.at.cases-list-requires t c).In-Default in let y = c.requires.1.1.1 in (omega arith, (default-good x c.requires.0, (omega arith, (fewer y (omega arith) _ (omega (arith, default_wide x))))))
 
 pub cases-cases-requires : goal.cases-cases-requires
-unfolding ones_in zeros_in
 cases-cases-requires t c = let y = c.requires.1.1.1 in (c.requires.0, (omega arith, (omega arith, y.free)))
 
 pub cases-returns-then-m-i : goal.cases-returns-then-m-i
-unfolding ones_in zeros_in
-cases-returns-then-m-i t c = case-head (th t (goal.at.cases-returns-then-m-i t c).In-Test) (omega arith) c.requires.1.1.1 (record { word = c.args.word; inputs = c.args.inputs }) c.if-m-i.true c.cases.ensures
+cases-returns-then-m-i t c = case-head (th t (goal.at.cases-returns-then-m-i t c).In-Test) (omega arith) c.requires.1.1.1 (record { word = c.args.r.word; inputs = c.args.r.inputs }) c.if-m-i.true c.cases.ensures
 
 pub cases-kept-k-requires : goal.cases-kept-k-requires
-unfolding ones_in zeros_in
 cases-kept-k-requires t c = let z = cases_lt t (goal.at.cases-kept-k-requires t c).Start in omega arith
 
 pub cases-overflow_add-i : goal.cases-overflow_add-i
-unfolding ones_in zeros_in
 cases-overflow_add-i t c = let z = cases_lt t (goal.at.cases-overflow_add-i t c).Start in omega arith
 
-pub cases-list-h-requires : goal.cases-list-h-requires
-unfolding ones_in zeros_in
-cases-list-h-requires t c = let z = cases_lt t (goal.at.cases-list-h-requires t c).Start in let x = (ts t (goal.at.cases-list-h-requires t c).After-kept-k) in let y = c.requires.1.1.1 in (omega arith, ((test_good x c.requires.0).1.1.0, (omega arith, (deeper y (omega arith) c.if-m-i.false _ (omega (arith, test-first-wide x))))))
+pub cases-list-requires-in-Test : goal.cases-list-requires-in-Test
+cases-list-requires-in-Test t c = let z = cases_lt t (goal.at.cases-list-requires-in-Test t c).Start in let x = (ts t (goal.at.cases-list-requires-in-Test t c).After-kept-k) in let y = c.requires.1.1.1 in (omega arith, ((test_good x c.requires.0).1.1.0, (omega arith, (deeper y (omega arith) c.if-m-i.false _ (omega (arith, test-first-wide x))))))
 
-pub cases-cases-requires-then-h-eq0 : goal.cases-cases-requires-then-h-eq0
-unfolding ones_in zeros_in
-cases-cases-requires-then-h-eq0 t c = let z = cases_lt t (goal.at.cases-cases-requires-then-h-eq0 t c).Start in let x = (ts t (goal.at.cases-cases-requires-then-h-eq0 t c).After-kept-k) in let y = c.requires.1.1.1 in ((test_good x c.requires.0).1.1.1, (omega arith, (omega (arith, test-rest-wide x), still_open c.list-h.ensures c.if-h-eq0.true y.free)))
+pub cases-cases-requires-in-Finished : goal.cases-cases-requires-in-Finished
+cases-cases-requires-in-Finished t c = let z = cases_lt t (goal.at.cases-cases-requires-in-Finished t c).Start in let x = (ts t (goal.at.cases-cases-requires-in-Finished t c).After-kept-k) in let y = c.requires.1.1.1 in ((test_good x c.requires.0).1.1.1, (omega arith, (omega (arith, test-rest-wide x), still_open c.list-in-Test.ensures c.in-Finished.is y.free)))
 
-pub cases-returns-then-h-eq0 : goal.cases-returns-then-h-eq0
-unfolding ones_in zeros_in
-cases-returns-then-h-eq0 t c = comes_then c.list-h.ensures (case_then (ts t (goal.at.cases-returns-then-h-eq0 t c).After-kept-k) (omega arith) c.requires.1.1.1 (record { word = c.args.word; inputs = c.args.inputs }) c.if-m-i.false c.if-m-k.true) c.if-h-eq0.true c.cases-then-h-eq0.ensures
+pub cases-returns-in-Finished : goal.cases-returns-in-Finished
+cases-returns-in-Finished t c = comes_then c.list-in-Test.ensures (case_then (ts t (goal.at.cases-returns-in-Finished t c).After-kept-k) (omega arith) c.requires.1.1.1 (record { word = c.args.r.word; inputs = c.args.r.inputs }) c.if-m-i.false c.if-k-m.false) c.in-Finished.is c.cases-in-Finished.ensures
 
 pub cases-then_at-requires : goal.cases-then_at-requires
-unfolding ones_in zeros_in
 cases-then_at-requires t c = let y = c.requires.1.1.1 in omega (arith, some-case (cases_at c.args.left c.args.t.now c.args.i c.args.e))
 
-pub cases-returns-then-m-k : goal.cases-returns-then-m-k
-unfolding ones_in zeros_in
-cases-returns-then-m-k t c = comes_on c.list-h.ensures (case_then (ts t (goal.at.cases-returns-then-m-k t c).After-kept-k) (omega arith) c.requires.1.1.1 (record { word = c.args.word; inputs = c.args.inputs }) c.if-m-i.false c.if-m-k.true) c.if-h-eq0.false c.then_at.ensures
+pub cases-returns-in_default : goal.cases-returns-in_default
+cases-returns-in_default t c = comes_on c.list-in-Test.ensures (case_then (ts t (goal.at.cases-returns-in_default t c).After-kept-k) (omega arith) c.requires.1.1.1 (record { word = c.args.r.word; inputs = c.args.r.inputs }) c.if-m-i.false c.if-k-m.false) (search rules) c.then_at.ensures
 
-pub cases-cases-requires-in-Test : goal.cases-cases-requires-in-Test
-unfolding ones_in zeros_in
-cases-cases-requires-in-Test t c = let z = cases_lt t (goal.at.cases-cases-requires-in-Test t c).Start in let x = (ts t (goal.at.cases-cases-requires-in-Test t c).After-kept-k) in let y = c.requires.1.1.1 in (omega arith, ((test_good x c.requires.0).1.1.1, (omega arith, (omega arith, (further y (omega arith) _ (omega arith) c.if-m-k.false _ (omega (arith, test-rest-wide x)))))))
+pub cases-cases-requires-then-k-m : goal.cases-cases-requires-then-k-m
+cases-cases-requires-then-k-m t c = let z = cases_lt t (goal.at.cases-cases-requires-then-k-m t c).Start in let x = (ts t (goal.at.cases-cases-requires-then-k-m t c).After-kept-k) in let y = c.requires.1.1.1 in (omega arith, ((test_good x c.requires.0).1.1.1, (omega arith, (omega arith, (further y (omega arith) _ (omega arith) c.if-k-m.true _ (omega (arith, test-rest-wide x)))))))
 
 pub cases-returns-in-Default : goal.cases-returns-in-Default
-unfolding ones_in zeros_in
-cases-returns-in-Default t c = default_is (df t (goal.at.cases-returns-in-Default t c).In-Default) (window (entries_in c.args.old.now) c.args.b c.args.w) (record { word = c.args.word; inputs = c.args.inputs }) c.list.ensures
+cases-returns-in-Default t c = default_is (df t (goal.at.cases-returns-in-Default t c).In-Default) (window c.args.old.now c.args.b c.args.w) (record { word = c.args.r.word; inputs = c.args.r.inputs }) c.list.ensures
 
-pub cases-returns-else-m-k : goal.cases-returns-else-m-k
-unfolding ones_in zeros_in
-cases-returns-else-m-k t c = case-later (ts t (goal.at.cases-returns-else-m-k t c).After-kept-k) (omega arith) c.requires.1.1.1 (record { word = c.args.word; inputs = c.args.inputs }) c.if-m-i.false c.if-m-k.false c.cases-in-Test.ensures
+pub cases-returns-then-k-m : goal.cases-returns-then-k-m
+cases-returns-then-k-m t c = case-later (ts t (goal.at.cases-returns-then-k-m t c).After-kept-k) (omega arith) c.requires.1.1.1 (record { word = c.args.r.word; inputs = c.args.r.inputs }) c.if-m-i.false c.if-k-m.true c.cases-then-k-m.ensures
 
 pub list-returns-then-e-m : goal.list-returns-then-e-m
-unfolding ones_in zeros_in
-list-returns-then-e-m t c = list-outside c.args.left c.args.t.now c.args.i c.args.e (record { word = c.args.word; inputs = c.args.inputs }) c.requires.1.1 (omega arith) (omega arith) c.requires.1.0 c.if-e-m.true
+list-returns-then-e-m t c = list-outside c.args.left c.args.t.now c.args.i c.args.e (record { word = c.args.r.word; inputs = c.args.r.inputs }) c.requires.1.1 (omega arith) (omega arith) c.requires.1.0 c.if-e-m.true
 
 pub list-overflow_sub-less : goal.list-overflow_sub-less
-unfolding ones_in zeros_in
 list-overflow_sub-less t c = let z = list-lt t (goal.at.list-overflow_sub-less t c).Start in omega arith
 
 pub list-end_at-k-requires : goal.list-end_at-k-requires
-unfolding ones_in zeros_in
 list-end_at-k-requires t c = let z = list-lt t (goal.at.list-end_at-k-requires t c).Start in omega arith
 
-pub list-one-h-requires : goal.list-one-h-requires
-unfolding ones_in zeros_in
-list-one-h-requires t c = let z = list-lt t (goal.at.list-one-h-requires t c).Start in let x = (ls t (goal.at.list-one-h-requires t c).After-end_at-k) in let y = c.requires.1.1 in (omega arith, ((list-good x c.requires.0).0, (c.if-m-k.true, (omega arith, (fewer y (omega arith) _ (omega (arith, list-first-wide x)))))))
+pub list-one-requires : goal.list-one-requires
+list-one-requires t c = let z = list-lt t (goal.at.list-one-requires t c).Start in let x = (ls t (goal.at.list-one-requires t c).After-end_at-k) in let y = c.requires.1.1 in (omega arith, ((list-good x c.requires.0).0, (c.if-k-m.false, (omega arith, (fewer y (omega arith) _ (omega (arith, list-first-wide x)))))))
 
-pub list-list-requires : goal.list-list-requires
-unfolding ones_in zeros_in
-list-list-requires t c = let z = list-lt t (goal.at.list-list-requires t c).Start in let x = (ls t (goal.at.list-list-requires t c).After-end_at-k) in let y = c.requires.1.1 in ((list-good x c.requires.0).1, (omega arith, (omega (arith, list-rest-wide x), still_open c.one-h.ensures c.if-h-eq0.true y.free)))
+pub list-list-requires-in-Finished : goal.list-list-requires-in-Finished
+list-list-requires-in-Finished t c = let z = list-lt t (goal.at.list-list-requires-in-Finished t c).Start in let x = (ls t (goal.at.list-list-requires-in-Finished t c).After-end_at-k) in let y = c.requires.1.1 in ((list-good x c.requires.0).1, (omega arith, (omega (arith, list-rest-wide x), still_open c.one.ensures c.in-Finished.is y.free)))
 
-pub list-returns-then-h-eq0 : goal.list-returns-then-h-eq0
-unfolding ones_in zeros_in
-list-returns-then-h-eq0 t c = comes_then c.one-h.ensures (list_then (ls t (goal.at.list-returns-then-h-eq0 t c).After-end_at-k) c.end_at-k.ensures (omega arith) c.requires.1.1 (record { word = c.args.word; inputs = c.args.inputs }) c.if-m-k.true) c.if-h-eq0.true c.list.ensures
+pub list-returns-in-Finished : goal.list-returns-in-Finished
+list-returns-in-Finished t c = comes_then c.one.ensures (list_then (ls t (goal.at.list-returns-in-Finished t c).After-end_at-k) c.end_at-k.ensures (omega arith) c.requires.1.1 (record { word = c.args.r.word; inputs = c.args.r.inputs }) c.if-k-m.false) c.in-Finished.is c.list-in-Finished.ensures
 
 pub list-then_at-requires : goal.list-then_at-requires
-unfolding ones_in zeros_in
 list-then_at-requires t c = let y = c.requires.1.1 in omega (arith, some-list (list_at c.args.left c.args.t.now c.args.i c.args.e))
 
-pub list-returns-then-m-k : goal.list-returns-then-m-k
-unfolding ones_in zeros_in
-list-returns-then-m-k t c = comes_on c.one-h.ensures (list_then (ls t (goal.at.list-returns-then-m-k t c).After-end_at-k) c.end_at-k.ensures (omega arith) c.requires.1.1 (record { word = c.args.word; inputs = c.args.inputs }) c.if-m-k.true) c.if-h-eq0.false c.then_at.ensures
+pub list-returns-in_default : goal.list-returns-in_default
+list-returns-in_default t c = comes_on c.one.ensures (list_then (ls t (goal.at.list-returns-in_default t c).After-end_at-k) c.end_at-k.ensures (omega arith) c.requires.1.1 (record { word = c.args.r.word; inputs = c.args.r.inputs }) c.if-k-m.false) (search rules) c.then_at.ensures
 
-pub list-list-requires-2 : goal.list-list-requires-2
-unfolding ones_in zeros_in
-list-list-requires-2 t c = let z = list-lt t (goal.at.list-list-requires-2 t c).Start in let x = (ls t (goal.at.list-list-requires-2 t c).After-end_at-k) in let y = c.requires.1.1 in (omega arith, ((list-good x c.requires.0).1, (omega arith, (further y (omega arith) _ (omega arith) c.if-m-k.false _ (omega (arith, list-rest-wide x))))))
+pub list-list-requires : goal.list-list-requires
+list-list-requires t c = let z = list-lt t (goal.at.list-list-requires t c).Start in let x = (ls t (goal.at.list-list-requires t c).After-end_at-k) in let y = c.requires.1.1 in (omega arith, ((list-good x c.requires.0).1, (omega arith, (further y (omega arith) _ (omega arith) c.if-k-m.true _ (omega (arith, list-rest-wide x))))))
 
-pub list-returns : goal.list-returns
-unfolding ones_in zeros_in
-list-returns t c = list-later (ls t (goal.at.list-returns t c).After-end_at-k) c.end_at-k.ensures (omega arith) c.requires.1.1 (record { word = c.args.word; inputs = c.args.inputs }) c.if-m-k.false c.list-2.ensures
+pub list-returns-then-k-m : goal.list-returns-then-k-m
+list-returns-then-k-m t c = list-later (ls t (goal.at.list-returns-then-k-m t c).After-end_at-k) c.end_at-k.ensures (omega arith) c.requires.1.1 (record { word = c.args.r.word; inputs = c.args.r.inputs }) c.if-k-m.true c.list.ensures
 
 pub one-overflow_sub-less : goal.one-overflow_sub-less
-unfolding ones_in zeros_in
 one-overflow_sub-less t c = let z = one-lt t ((goal.at.one-overflow_sub-less t c).Start) in omega arith
 
 pub one-one-requires : goal.one-one-requires
-unfolding ones_in zeros_in
 one-one-requires t c = let z = one-lt t (goal.at.one-one-requires t c).Start in let y = c.requires.1.1.1 in (c.requires.0, (omega arith, (c.requires.1.1.0, (omega arith, y.free))))
 
 pub one-overflow_cast-d : goal.one-overflow_cast-d
-unfolding ones_in zeros_in
 one-overflow_cast-d t c = record { fits = omega (arith, wait_short c.args.left c.args.t.now c.args.i c.args.e (let z = one-lt t (goal.at.one-overflow_cast-d t c).Start in omega arith) c.requires.1.1.0 refl _ (waits_for t (goal.at.one-overflow_cast-d t c).After-shape_from _ c.in-Waiting.is) c.requires.0) }
 
 pub one-left_of-requires : goal.one-left_of-requires
-unfolding ones_in zeros_in
 one-left_of-requires t c = let y = c.requires.1.1.1 in (omega (arith, wait_wide c.args.left c.args.t.now c.args.i c.args.e (let z = one-lt t (goal.at.one-left_of-requires t c).Start in omega arith) c.requires.1.1.0 refl _ (waits_for t (goal.at.one-left_of-requires t c).After-shape_from _ c.in-Waiting.is)), y.kept)
 
 pub one-delay-requires : goal.one-delay-requires
-unfolding ones_in zeros_in
 one-delay-requires t c = let z = one-lt t (goal.at.one-delay-requires t c).Start in let y = c.requires.1.1.1 in (y.free.long, (omega arith, omega (arith, wait_wide c.args.left c.args.t.now c.args.i c.args.e (let z = one-lt t (goal.at.one-delay-requires t c).Start in omega arith) c.requires.1.1.0 refl _ (waits_for t (goal.at.one-delay-requires t c).After-shape_from _ c.in-Waiting.is))))
 
 pub one-kept-k-requires : goal.one-kept-k-requires
-unfolding ones_in zeros_in
 one-kept-k-requires t c = let z = one-lt t (goal.at.one-kept-k-requires t c).Start in omega arith
 
 pub one-overflow_add-i : goal.one-overflow_add-i
-unfolding ones_in zeros_in
 one-overflow_add-i t c = let z = one-lt t (goal.at.one-overflow_add-i t c).Start in omega arith
 
 pub one-list-requires : goal.one-list-requires
-unfolding ones_in zeros_in
 one-list-requires t c = let z = one-lt t (goal.at.one-list-requires t c).Start in let x = (ei t (goal.at.one-list-requires t c).After-kept-k) in let y = c.requires.1.1.1 in (omega arith, ((either-good x c.requires.0).0, (omega arith, (deeper y (omega arith) (eqb-false _ _ (eio t (goal.at.one-list-requires t c).After-kept-k).0) _ (omega (arith, either-first-wide x))))))
 
 pub one-returns-then-m-k : goal.one-returns-then-m-k
-unfolding ones_in zeros_in
-one-returns-then-m-k t c = either_first (ei t (goal.at.one-returns-then-m-k t c).After-kept-k) (omega arith) c.requires.1.1.1 (record { word = c.args.word; inputs = c.args.inputs }) (eqb-false _ _ (eio t (goal.at.one-returns-then-m-k t c).After-kept-k).0) c.if-m-k.true c.list.ensures
+one-returns-then-m-k t c = either_first (ei t (goal.at.one-returns-then-m-k t c).After-kept-k) (omega arith) c.requires.1.1.1 (record { word = c.args.r.word; inputs = c.args.r.inputs }) (eqb-false _ _ (eio t (goal.at.one-returns-then-m-k t c).After-kept-k).0) c.if-m-k.true c.list.ensures
 
-pub one-list-requires-in-Either : goal.one-list-requires-in-Either
-unfolding ones_in zeros_in
-one-list-requires-in-Either t c = let z = one-lt t (goal.at.one-list-requires-in-Either t c).Start in let x = (ei t (goal.at.one-list-requires-in-Either t c).After-kept-k) in let y = c.requires.1.1.1 in (omega arith, ((either-good x c.requires.0).1, (omega arith, (further y (omega arith) _ (omega arith) c.if-m-k.false _ (omega (arith, either-rest-wide x))))))
+pub one-list-requires-else-m-k : goal.one-list-requires-else-m-k
+one-list-requires-else-m-k t c = let z = one-lt t (goal.at.one-list-requires-else-m-k t c).Start in let x = (ei t (goal.at.one-list-requires-else-m-k t c).After-kept-k) in let y = c.requires.1.1.1 in (omega arith, ((either-good x c.requires.0).1, (omega arith, (further y (omega arith) _ (omega arith) c.if-m-k.false _ (omega (arith, either-rest-wide x))))))
 
 pub one-overflow_add-i-in-Repeat : goal.one-overflow_add-i-in-Repeat
-unfolding ones_in zeros_in
 one-overflow_add-i-in-Repeat t c = let z = one-lt t (goal.at.one-overflow_add-i-in-Repeat t c).Start in omega arith
 
-pub one-list-h-requires : goal.one-list-h-requires
-unfolding ones_in zeros_in
-one-list-h-requires t c = let z = one-lt t (goal.at.one-list-h-requires t c).Start in let x = (re t (goal.at.one-list-h-requires t c).In-Repeat) in let y = c.requires.1.1.1 in (omega arith, (x.is.good _ _ c.requires.0, (omega arith, (deeper y (omega arith) (eqb-false _ _ (reo t (goal.at.one-list-h-requires t c).In-Repeat).0) _ (omega (arith, x.is.wide))))))
+pub one-list-requires-in-Repeat : goal.one-list-requires-in-Repeat
+one-list-requires-in-Repeat t c = let z = one-lt t (goal.at.one-list-requires-in-Repeat t c).Start in let x = (re t (goal.at.one-list-requires-in-Repeat t c).In-Repeat) in let y = c.requires.1.1.1 in (omega arith, (x.is.good _ _ c.requires.0, (omega arith, (deeper y (omega arith) (eqb-false _ _ (reo t (goal.at.one-list-requires-in-Repeat t c).In-Repeat).0) _ (omega (arith, x.is.wide))))))
 
 pub one-looped-requires : goal.one-looped-requires
-unfolding ones_in zeros_in
-one-looped-requires t c = let z = one-lt t (goal.at.one-looped-requires t c).Start in let y = c.requires.1.1.1 in (omega arith, (omega (arith, (re t (goal.at.one-looped-requires t c).In-Repeat).is.wide, some-list (list_at (c.args.left - 1) c.args.t.now (c.args.i + 1) c.args.e)), c.list-h.ensures.holds.long))
+one-looped-requires t c = let z = one-lt t (goal.at.one-looped-requires t c).Start in let y = c.requires.1.1.1 in (omega arith, (omega (arith, (re t (goal.at.one-looped-requires t c).In-Repeat).is.wide, some-list (list_at (c.args.left - 1) c.args.t.now (c.args.i + 1) c.args.e)), c.list-in-Repeat.ensures.holds.long))
 
-pub one-returns-then-h-gt0 : goal.one-returns-then-h-gt0
-unfolding ones_in zeros_in
-one-returns-then-h-gt0 t c = comes_round c.list-h.ensures (repeat_again (re t (goal.at.one-returns-then-h-gt0 t c).In-Repeat) c.requires.1.1.1 (record { word = c.args.word; inputs = c.args.inputs }) (eqb-false _ _ (reo t (goal.at.one-returns-then-h-gt0 t c).In-Repeat).0)) (λ z. omega (arith, c.if-h-gt0.true)) c.looped.ensures
+pub one-returns-in_default : goal.one-returns-in_default
+one-returns-in_default t c = comes_round c.list-in-Repeat.ensures (repeat_again (re t (goal.at.one-returns-in_default t c).In-Repeat) c.requires.1.1.1 (record { word = c.args.r.word; inputs = c.args.r.inputs }) (eqb-false _ _ (reo t (goal.at.one-returns-in_default t c).In-Repeat).0)) (search rules) c.looped.ensures
 
-pub one-one-requires-in-Repeat : goal.one-one-requires-in-Repeat
-unfolding ones_in zeros_in
-one-one-requires-in-Repeat t c = let z = one-lt t (goal.at.one-one-requires-in-Repeat t c).Start in let y = c.requires.1.1.1 in (c.requires.0, (omega arith, (c.requires.1.1.0, (omega arith, still_open c.list-h.ensures (omega (arith, c.if-h-gt0.false)) y.free))))
+pub one-one-requires-in-Finished : goal.one-one-requires-in-Finished
+one-one-requires-in-Finished t c = let z = one-lt t (goal.at.one-one-requires-in-Finished t c).Start in let y = c.requires.1.1.1 in (c.requires.0, (omega arith, (c.requires.1.1.0, (omega arith, still_open c.list-in-Repeat.ensures c.in-Finished.is y.free))))
 
 pub one-overflow_add-i-in-Tests : goal.one-overflow_add-i-in-Tests
-unfolding ones_in zeros_in
 one-overflow_add-i-in-Tests t c = let z = one-lt t (goal.at.one-overflow_add-i-in-Tests t c).Start in omega arith
 
 pub one-cases-requires : goal.one-cases-requires
-unfolding ones_in zeros_in
 one-cases-requires t c = let z = one-lt t (goal.at.one-cases-requires t c).Start in let x = (sw t (goal.at.one-cases-requires t c).In-Tests) in let y = c.requires.1.1.1 in (omega arith, (switch-good x c.requires.0, (c.requires.1.0, (omega arith, (deeper y (omega arith) (eqb-false _ _ (swo t (goal.at.one-cases-requires t c).In-Tests).0) _ (omega (arith, switch-wide x)))))))
 
 pub one-overflow_add-i-in-Together : goal.one-overflow_add-i-in-Together
-unfolding ones_in zeros_in
 one-overflow_add-i-in-Together t c = let z = one-lt t (goal.at.one-overflow_add-i-in-Together t c).Start in omega arith
 
 pub one-branches-requires : goal.one-branches-requires
-unfolding ones_in zeros_in
 one-branches-requires t c = let z = one-lt t (goal.at.one-branches-requires t c).Start in let x = (pa t (goal.at.one-branches-requires t c).In-Together) in let y = c.requires.1.1.1 in (omega arith, (parallel-good x c.requires.0, (omega arith, (y.room, (omega (arith, parallel-wide x), (omega arith, (y.free, (y.leaves, y.kept))))))))
 
 pub one-returns-in-Plain : goal.one-returns-in-Plain
-unfolding ones_in zeros_in
-one-returns-in-Plain t c = starts c.args.left c.args.t.now c.args.i c.args.e (let z = one-lt t (goal.at.one-returns-in-Plain t c).Start in omega arith) c.requires.1.1.0 (omega arith) c.requires.1.1.1 (record { word = c.args.word; inputs = c.args.inputs }) c.shape_from.ensures c.in-Plain.is c.one.ensures
+one-returns-in-Plain t c = starts c.args.left c.args.t.now c.args.i c.args.e (let z = one-lt t (goal.at.one-returns-in-Plain t c).Start in omega arith) c.requires.1.1.0 (omega arith) c.requires.1.1.1 (record { word = c.args.r.word; inputs = c.args.r.inputs }) c.shape_from.ensures c.in-Plain.is c.one.ensures
 
 pub one-returns-in-Waiting : goal.one-returns-in-Waiting
-unfolding ones_in zeros_in
-one-returns-in-Waiting t c = let y = c.requires.1.1.1 in let v = wait_wide c.args.left c.args.t.now c.args.i c.args.e (let z = one-lt t (goal.at.one-returns-in-Waiting t c).Start in omega arith) c.requires.1.1.0 refl _ (waits_for t (goal.at.one-returns-in-Waiting t c).After-shape_from _ c.in-Waiting.is) in wait_is c.args.left c.args.t.now c.args.i c.args.e (let z = one-lt t (goal.at.one-returns-in-Waiting t c).Start in omega arith) c.requires.1.1.0 refl _ (waits_for t (goal.at.one-returns-in-Waiting t c).After-shape_from _ c.in-Waiting.is) (window (entries_in c.args.old.now) c.args.b c.args.w) (record { word = c.args.word; inputs = c.args.inputs }) (comes_as (ap (meaning.delayed (head_at c.args.t.now c.args.i)) (sym (c.left_of.ensures c.args.w (omega arith)))) refl (c.delay.ensures (head_at c.args.t.now c.args.i).place))
+one-returns-in-Waiting t c = let y = c.requires.1.1.1 in let v = wait_wide c.args.left c.args.t.now c.args.i c.args.e (let z = one-lt t (goal.at.one-returns-in-Waiting t c).Start in omega arith) c.requires.1.1.0 refl _ (waits_for t (goal.at.one-returns-in-Waiting t c).After-shape_from _ c.in-Waiting.is) in wait_is c.args.left c.args.t.now c.args.i c.args.e (let z = one-lt t (goal.at.one-returns-in-Waiting t c).Start in omega arith) c.requires.1.1.0 refl _ (waits_for t (goal.at.one-returns-in-Waiting t c).After-shape_from _ c.in-Waiting.is) (window c.args.old.now c.args.b c.args.w) (record { word = c.args.r.word; inputs = c.args.r.inputs }) (comes_as (ap (meaning.delayed (head_at c.args.t.now c.args.i)) (sym (c.left_of.ensures c.args.w (omega arith)))) refl (c.delay.ensures (head_at c.args.t.now c.args.i).place))
 
 pub one-returns-else-m-k : goal.one-returns-else-m-k
-unfolding ones_in zeros_in
-one-returns-else-m-k t c = either_second (ei t (goal.at.one-returns-else-m-k t c).After-kept-k) (omega arith) c.requires.1.1.1 (record { word = c.args.word; inputs = c.args.inputs }) (eqb-false _ _ (eio t (goal.at.one-returns-else-m-k t c).After-kept-k).0) c.if-m-k.false c.list-in-Either.ensures
+one-returns-else-m-k t c = either_second (ei t (goal.at.one-returns-else-m-k t c).After-kept-k) (omega arith) c.requires.1.1.1 (record { word = c.args.r.word; inputs = c.args.r.inputs }) (eqb-false _ _ (eio t (goal.at.one-returns-else-m-k t c).After-kept-k).0) c.if-m-k.false c.list-else-m-k.ensures
 
-pub one-returns-else-h-gt0 : goal.one-returns-else-h-gt0
-unfolding ones_in zeros_in
-one-returns-else-h-gt0 t c = comes_again c.list-h.ensures (repeat_again (re t (goal.at.one-returns-else-h-gt0 t c).In-Repeat) c.requires.1.1.1 (record { word = c.args.word; inputs = c.args.inputs }) (eqb-false _ _ (reo t (goal.at.one-returns-else-h-gt0 t c).In-Repeat).0)) (omega (arith, c.if-h-gt0.false)) c.one-in-Repeat.ensures
+pub one-returns-in-Finished : goal.one-returns-in-Finished
+one-returns-in-Finished t c = comes_again c.list-in-Repeat.ensures (repeat_again (re t (goal.at.one-returns-in-Finished t c).In-Repeat) c.requires.1.1.1 (record { word = c.args.r.word; inputs = c.args.r.inputs }) (eqb-false _ _ (reo t (goal.at.one-returns-in-Finished t c).In-Repeat).0)) c.in-Finished.is c.one-in-Finished.ensures
 
 pub one-returns-in-Tests : goal.one-returns-in-Tests
-unfolding ones_in zeros_in
-one-returns-in-Tests t c = switch_in (sw t (goal.at.one-returns-in-Tests t c).In-Tests) c.requires.1.1.1 (record { word = c.args.word; inputs = c.args.inputs }) (eqb-false _ _ (swo t (goal.at.one-returns-in-Tests t c).In-Tests).0) c.cases.ensures c.caught.ensures
+one-returns-in-Tests t c = switch_in (sw t (goal.at.one-returns-in-Tests t c).In-Tests) c.requires.1.1.1 (record { word = c.args.r.word; inputs = c.args.r.inputs }) (eqb-false _ _ (swo t (goal.at.one-returns-in-Tests t c).In-Tests).0) c.cases.ensures c.caught.ensures
 
 pub one-returns-in-Together : goal.one-returns-in-Together
-unfolding ones_in zeros_in
-one-returns-in-Together t c = parallel_in (pa t (goal.at.one-returns-in-Together t c).In-Together) c.requires.1.1.1 (record { word = c.args.word; inputs = c.args.inputs }) (eqb-false _ _ (pao t (goal.at.one-returns-in-Together t c).In-Together).0) c.branches.ensures c.caught-in-Together.ensures
+one-returns-in-Together t c = parallel_in (pa t (goal.at.one-returns-in-Together t c).In-Together) c.requires.1.1.1 (record { word = c.args.r.word; inputs = c.args.r.inputs }) (eqb-false _ _ (pao t (goal.at.one-returns-in-Together t c).In-Together).0) c.branches.ensures c.caught-in-Together.ensures

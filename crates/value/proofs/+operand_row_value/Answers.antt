@@ -14,18 +14,20 @@ use Rattle.nodes.specs.Fit.{size_of, Fit}
 use Rattle.nodes.specs.declared.Kind.{Kind}
 use Rattle.nodes.specs.declared.Sum.{Sum}
 use Rattle.nodes.proofs.Laws.{expr_opened, expr_empty}
-use Rattle.value.specs.declared.Term.TheVariants.{Added}
+use Rattle.std.specs.Prelude.{Some}
+use Rattle.std.proofs.Common.{rules}
+use Rattle.value.specs.Leaf.{is_leaf}
 use Rattle.value.specs.Flat.{flat}
 use Rattle.value.specs.Leaf.{Leaf, leaf_of}
 use Rattle.value.specs.Row.{adds}
 use Rattle.value.proofs.Laws.{through, size_of_lem, fits, arithmetic_is, not_is, int_is, comparison_is, logic-first, logic-second, known, leaf-fits, leaf_is, added, row-sign, sum_room, sum_is, row_room, row_more, row_is}
 use Rattle.value.proofs.+operand_row_value.Goals as goal
-use Rattle.value.proofs.+operand_row_value.Goals.{operand-Then-is_leaf, row-After-term_at-n, value-After-part_at-n}
+use Rattle.value.proofs.+operand_row_value.Goals.{operand-Then-is_leaf, row-After-term_at, value-After-part_at-n}
 
 -- at a leaf
 module _ (t : ℕ) (c : operand-Then-is_leaf t) where
   abbrev o_reads : Reads
-  o_reads = record { word = c.args.word; inputs = c.args.inputs }
+  o_reads = record { word = c.args.r.word; inputs = c.args.r.inputs }
 
   o_opens : expr_at c.args.left c.args.t.now c.args.j ≡ expr_of (expr_at (c.args.left - 1) c.args.t.now) (half_at c.args.t.now (part_base c.args.j + 2)) (kind_at c.args.t.now c.args.j)
   o_opens = expr_opened _ _ _ c.if-left-eq0.false refl refl
@@ -37,9 +39,9 @@ module _ (t : ℕ) (c : operand-Then-is_leaf t) where
   o_is = leaf_is (kind_at c.args.t.now c.args.j) (expr_at (c.args.left - 1) c.args.t.now) (half_at c.args.t.now (part_base c.args.j + 2)) o_reads (sym c.is_leaf.ensures ∙ c.if-is_leaf.true) ∙ ap (λ (x : Expr Variable). flat (numbers.value x o_reads)) (sym o_opens)
 
 -- in a row, at its operator o with the operands a and b
-module _ (t : ℕ) (c : row-After-term_at-n t) where
+module _ (t : ℕ) (c : row-After-term_at t) where
   abbrev r_reads : Reads
-  r_reads = record { word = c.args.word; inputs = c.args.inputs }
+  r_reads = record { word = c.args.r.word; inputs = c.args.r.inputs }
 
   abbrev r_sub : ℕ → Expr Variable
   r_sub a = expr_at (c.args.left - 1) c.args.t.now a
@@ -47,22 +49,22 @@ module _ (t : ℕ) (c : row-After-term_at-n t) where
   abbrev r_place : ℕ
   r_place = half_at c.args.t.now (part_base c.args.j + 2)
 
-  r_adds : {o : Sum} {a b : ℕ} → c.term_at-n.result ≡ Added o a b → adds o ≡ true
-  r_adds e = (added (kind_at c.args.t.now c.args.j) (sym c.term_at-n.ensures ∙ e)).1
+  r_adds : {o : Sum} {a b : ℕ} → c.term_at.result ≡ Some (o, a, b) → adds o ≡ true
+  r_adds e = (added (kind_at c.args.t.now c.args.j) (sym c.term_at.ensures ∙ e)).1
 
-  r_opens : {o : Sum} {a b : ℕ} → c.term_at-n.result ≡ Added o a b → expr_at c.args.left c.args.t.now c.args.j ≡ arithmetic (sum o) r_place (r_sub a) (r_sub b)
-  r_opens e = expr_opened _ _ _ c.if-left-eq0.false refl (added (kind_at c.args.t.now c.args.j) (sym c.term_at-n.ensures ∙ e)).0
+  r_opens : {o : Sum} {a b : ℕ} → c.term_at.result ≡ Some (o, a, b) → expr_at c.args.left c.args.t.now c.args.j ≡ arithmetic (sum o) r_place (r_sub a) (r_sub b)
+  r_opens e = expr_opened _ _ _ c.if-left-eq0.false refl (added (kind_at c.args.t.now c.args.j) (sym c.term_at.ensures ∙ e)).0
 
-  r_fit : {o : Sum} {a b : ℕ} → c.term_at-n.result ≡ Added o a b → Fit (arithmetic (sum o) r_place (r_sub a) (r_sub b))
+  r_fit : {o : Sum} {a b : ℕ} → c.term_at.result ≡ Some (o, a, b) → Fit (arithmetic (sum o) r_place (r_sub a) (r_sub b))
   r_fit e = rw (r_opens e) at c.requires.0
 
-  r_room : {o : Sum} {a b : ℕ} → c.term_at-n.result ≡ Added o a b → size_of (arithmetic (sum o) r_place (r_sub a) (r_sub b)) + nat_abs c.args.x < 2147483648
+  r_room : {o : Sum} {a b : ℕ} → c.term_at.result ≡ Some (o, a, b) → size_of (arithmetic (sum o) r_place (r_sub a) (r_sub b)) + nat_abs c.args.x < 2147483648
   r_room e = rw (r_opens e) at c.requires.1.1
 
 -- at a part of the kind k
 module _ (t : ℕ) (c : value-After-part_at-n t) where
   abbrev reads : Reads
-  reads = record { word = c.args.word; inputs = c.args.inputs }
+  reads = record { word = c.args.r.word; inputs = c.args.r.inputs }
 
   abbrev sub : ℕ → Expr Variable
   sub a = expr_at (c.args.left - 1) c.args.t.now a
@@ -84,7 +86,7 @@ module _ (t : ℕ) (c : value-After-part_at-n t) where
 
 pub operand-returns-then-left-eq0 : goal.operand-returns-then-left-eq0
 unfolding numbers.value Fit
-operand-returns-then-left-eq0 t c = sym (ap (λ (x : Expr Variable). flat (numbers.value x (record { word = c.args.word; inputs = c.args.inputs }))) (expr_empty _ _ _ c.if-left-eq0.true))
+operand-returns-then-left-eq0 t c = sym (ap (λ (x : Expr Variable). flat (numbers.value x (record { word = c.args.r.word; inputs = c.args.r.inputs }))) (expr_empty _ _ _ c.if-left-eq0.true))
 
 pub operand-leaf-requires : goal.operand-leaf-requires
 unfolding numbers.value Fit
@@ -108,63 +110,39 @@ row-returns-then-left-eq0 t c = rw (to_z-of_z w64 _ c.ranges.x, expr_empty _ _ _
 
 pub row-operand-requires : goal.row-operand-requires
 unfolding numbers.value Fit
-row-operand-requires t c = (omega arith, (r_fit t (goal.at.row-operand-requires t c).After-term_at-n c.in-Added.is).1.1.1.1)
+row-operand-requires t c = (omega arith, (r_fit t (goal.at.row-operand-requires t c).After-term_at c.in-Some.is).1.1.1.1)
 
 pub row-with_sign-y-requires : goal.row-with_sign-y-requires
 unfolding numbers.value Fit
-row-with_sign-y-requires t c = rw (through _ c.operand.type_inv) (row-sign c.in-Added.o (r_place t (goal.at.row-with_sign-y-requires t c).After-term_at-n) (r_sub t (goal.at.row-with_sign-y-requires t c).After-term_at-n c.in-Added.a) (r_sub t (goal.at.row-with_sign-y-requires t c).After-term_at-n c.in-Added.b) (r_reads t (goal.at.row-with_sign-y-requires t c).After-term_at-n) (r_adds t (goal.at.row-with_sign-y-requires t c).After-term_at-n c.in-Added.is) (r_fit t (goal.at.row-with_sign-y-requires t c).After-term_at-n c.in-Added.is) c.operand.ensures)
+row-with_sign-y-requires t c = rw (through _ c.operand.type_inv) (row-sign c.in-Some.o (r_place t (goal.at.row-with_sign-y-requires t c).After-term_at) (r_sub t (goal.at.row-with_sign-y-requires t c).After-term_at c.in-Some.a) (r_sub t (goal.at.row-with_sign-y-requires t c).After-term_at c.in-Some.b) (r_reads t (goal.at.row-with_sign-y-requires t c).After-term_at) (r_adds t (goal.at.row-with_sign-y-requires t c).After-term_at c.in-Some.is) (r_fit t (goal.at.row-with_sign-y-requires t c).After-term_at c.in-Some.is) c.operand.ensures)
 
 pub row-plus-requires : goal.row-plus-requires
 unfolding numbers.value Fit
-row-plus-requires t c = let h = row_room c.in-Added.o (r_place t (goal.at.row-plus-requires t c).After-term_at-n) (r_sub t (goal.at.row-plus-requires t c).After-term_at-n c.in-Added.a) (r_sub t (goal.at.row-plus-requires t c).After-term_at-n c.in-Added.b) (r_reads t (goal.at.row-plus-requires t c).After-term_at-n) c.args.x (r_adds t (goal.at.row-plus-requires t c).After-term_at-n c.in-Added.is) (r_fit t (goal.at.row-plus-requires t c).After-term_at-n c.in-Added.is) c.operand.ensures (r_room t (goal.at.row-plus-requires t c).After-term_at-n c.in-Added.is) in rw (through _ c.with_sign-y.type_inv, c.with_sign-y.ensures, through _ c.operand.type_inv, to_z-of_z w64 _ c.ranges.x) (omega (arith, h))
+row-plus-requires t c = let h = row_room c.in-Some.o (r_place t (goal.at.row-plus-requires t c).After-term_at) (r_sub t (goal.at.row-plus-requires t c).After-term_at c.in-Some.a) (r_sub t (goal.at.row-plus-requires t c).After-term_at c.in-Some.b) (r_reads t (goal.at.row-plus-requires t c).After-term_at) c.args.x (r_adds t (goal.at.row-plus-requires t c).After-term_at c.in-Some.is) (r_fit t (goal.at.row-plus-requires t c).After-term_at c.in-Some.is) c.operand.ensures (r_room t (goal.at.row-plus-requires t c).After-term_at c.in-Some.is) in rw (through _ c.with_sign-y.type_inv, c.with_sign-y.ensures, through _ c.operand.type_inv, to_z-of_z w64 _ c.ranges.x) (omega (arith, h))
 
 pub row-row-requires : goal.row-row-requires
 unfolding numbers.value Fit
-row-row-requires t c = (omega arith, ((r_fit t (goal.at.row-row-requires t c).After-term_at-n c.in-Added.is).1.1.1.0, ((r_fit t (goal.at.row-row-requires t c).After-term_at-n c.in-Added.is).1.0, rw (through _ c.plus.type_inv, c.plus.ensures, through _ c.with_sign-y.type_inv, c.with_sign-y.ensures, through _ c.operand.type_inv, to_z-of_z w64 _ c.ranges.x) (row_more c.in-Added.o (r_place t (goal.at.row-row-requires t c).After-term_at-n) (r_sub t (goal.at.row-row-requires t c).After-term_at-n c.in-Added.a) (r_sub t (goal.at.row-row-requires t c).After-term_at-n c.in-Added.b) (r_reads t (goal.at.row-row-requires t c).After-term_at-n) c.args.x (r_adds t (goal.at.row-row-requires t c).After-term_at-n c.in-Added.is) (r_fit t (goal.at.row-row-requires t c).After-term_at-n c.in-Added.is) c.operand.ensures (r_room t (goal.at.row-row-requires t c).After-term_at-n c.in-Added.is)))))
+row-row-requires t c = (omega arith, ((r_fit t (goal.at.row-row-requires t c).After-term_at c.in-Some.is).1.1.1.0, ((r_fit t (goal.at.row-row-requires t c).After-term_at c.in-Some.is).1.0, rw (through _ c.plus.type_inv, c.plus.ensures, through _ c.with_sign-y.type_inv, c.with_sign-y.ensures, through _ c.operand.type_inv, to_z-of_z w64 _ c.ranges.x) (row_more c.in-Some.o (r_place t (goal.at.row-row-requires t c).After-term_at) (r_sub t (goal.at.row-row-requires t c).After-term_at c.in-Some.a) (r_sub t (goal.at.row-row-requires t c).After-term_at c.in-Some.b) (r_reads t (goal.at.row-row-requires t c).After-term_at) c.args.x (r_adds t (goal.at.row-row-requires t c).After-term_at c.in-Some.is) (r_fit t (goal.at.row-row-requires t c).After-term_at c.in-Some.is) c.operand.ensures (r_room t (goal.at.row-row-requires t c).After-term_at c.in-Some.is)))))
 
-pub row-operand-requires-in-Other : goal.row-operand-requires-in-Other
+pub row-operand-requires-in-None : goal.row-operand-requires-in-None
 unfolding numbers.value Fit
-row-operand-requires-in-Other t c = (omega arith, c.requires.0)
+row-operand-requires-in-None t c = (omega arith, c.requires.0)
 
-pub row-plus-requires-in-Other : goal.row-plus-requires-in-Other
+pub row-plus-requires-in-None : goal.row-plus-requires-in-None
 unfolding numbers.value Fit
-row-plus-requires-in-Other t c = let h = size_of_lem (expr_at c.args.left c.args.t.now c.args.j) (r_reads t (goal.at.row-plus-requires-in-Other t c).After-term_at-n) c.requires.1.0 c.operand-in-Other.ensures in rw (through _ c.operand-in-Other.type_inv, to_z-of_z w64 _ c.ranges.x) (omega (arith, h, c.requires.1.1))
+row-plus-requires-in-None t c = let h = size_of_lem (expr_at c.args.left c.args.t.now c.args.j) (r_reads t (goal.at.row-plus-requires-in-None t c).After-term_at) c.requires.1.0 c.operand-in-None.ensures in rw (through _ c.operand-in-None.type_inv, to_z-of_z w64 _ c.ranges.x) (omega (arith, h, c.requires.1.1))
 
-pub row-returns-in-Added : goal.row-returns-in-Added
+pub row-returns-in-Some : goal.row-returns-in-Some
 unfolding numbers.value Fit
-row-returns-in-Added t c = rw (through _ c.row.type_inv, c.row.ensures, through _ c.plus.type_inv, c.plus.ensures, through _ c.with_sign-y.type_inv, c.with_sign-y.ensures, through _ c.operand.type_inv, to_z-of_z w64 _ c.ranges.x, r_opens t (goal.at.row-returns-in-Added t c).After-term_at-n c.in-Added.is) (row_is c.in-Added.o (r_place t (goal.at.row-returns-in-Added t c).After-term_at-n) (r_sub t (goal.at.row-returns-in-Added t c).After-term_at-n c.in-Added.a) (r_sub t (goal.at.row-returns-in-Added t c).After-term_at-n c.in-Added.b) (r_reads t (goal.at.row-returns-in-Added t c).After-term_at-n) c.args.x (r_adds t (goal.at.row-returns-in-Added t c).After-term_at-n c.in-Added.is) (r_fit t (goal.at.row-returns-in-Added t c).After-term_at-n c.in-Added.is) c.operand.ensures)
+row-returns-in-Some t c = rw (through _ c.row.type_inv, c.row.ensures, through _ c.plus.type_inv, c.plus.ensures, through _ c.with_sign-y.type_inv, c.with_sign-y.ensures, through _ c.operand.type_inv, to_z-of_z w64 _ c.ranges.x, r_opens t (goal.at.row-returns-in-Some t c).After-term_at c.in-Some.is) (row_is c.in-Some.o (r_place t (goal.at.row-returns-in-Some t c).After-term_at) (r_sub t (goal.at.row-returns-in-Some t c).After-term_at c.in-Some.a) (r_sub t (goal.at.row-returns-in-Some t c).After-term_at c.in-Some.b) (r_reads t (goal.at.row-returns-in-Some t c).After-term_at) c.args.x (r_adds t (goal.at.row-returns-in-Some t c).After-term_at c.in-Some.is) (r_fit t (goal.at.row-returns-in-Some t c).After-term_at c.in-Some.is) c.operand.ensures)
 
-pub row-returns-in-Other : goal.row-returns-in-Other
+pub row-returns-in-None : goal.row-returns-in-None
 unfolding numbers.value Fit
-row-returns-in-Other t c = rw (through _ c.plus-in-Other.type_inv, c.plus-in-Other.ensures, through _ c.operand-in-Other.type_inv, c.operand-in-Other.ensures, to_z-of_z w64 _ c.ranges.x)
+row-returns-in-None t c = rw (through _ c.plus-in-None.type_inv, c.plus-in-None.ensures, through _ c.operand-in-None.type_inv, c.operand-in-None.ensures, to_z-of_z w64 _ c.ranges.x)
 
 pub value-returns-then-left-eq0 : goal.value-returns-then-left-eq0
 unfolding numbers.value Fit
-value-returns-then-left-eq0 t c = sym (ap (λ (x : Expr Variable). flat (numbers.value x (record { word = c.args.word; inputs = c.args.inputs }))) (expr_empty _ _ _ c.if-left-eq0.true))
-
-pub value-leaf-requires : goal.value-leaf-requires
-unfolding numbers.value Fit
-value-leaf-requires t c = rw (known _ _ c.part_at-n.ensures c.in-Literal.is) (fit t (goal.at.value-leaf-requires t c).After-part_at-n c.in-Literal.is)
-
-pub value-leaf-requires-in-Truth : goal.value-leaf-requires-in-Truth
-unfolding numbers.value Fit
-value-leaf-requires-in-Truth t c = rw (known _ _ c.part_at-n.ensures c.in-Truth.is) (fit t (goal.at.value-leaf-requires-in-Truth t c).After-part_at-n c.in-Truth.is)
-
-pub value-leaf-requires-in-Input : goal.value-leaf-requires-in-Input
-unfolding numbers.value Fit
-value-leaf-requires-in-Input t c = rw (known _ _ c.part_at-n.ensures c.in-Input.is) (fit t (goal.at.value-leaf-requires-in-Input t c).After-part_at-n c.in-Input.is)
-
-pub value-leaf-requires-in-Boolean : goal.value-leaf-requires-in-Boolean
-unfolding numbers.value Fit
-value-leaf-requires-in-Boolean t c = rw (known _ _ c.part_at-n.ensures c.in-Boolean.is) (fit t (goal.at.value-leaf-requires-in-Boolean t c).After-part_at-n c.in-Boolean.is)
-
-pub value-leaf-requires-in-Integer : goal.value-leaf-requires-in-Integer
-unfolding numbers.value Fit
-value-leaf-requires-in-Integer t c = rw (known _ _ c.part_at-n.ensures c.in-Integer.is) (fit t (goal.at.value-leaf-requires-in-Integer t c).After-part_at-n c.in-Integer.is)
-
-pub value-leaf-requires-in-Bit : goal.value-leaf-requires-in-Bit
-unfolding numbers.value Fit
-value-leaf-requires-in-Bit t c = rw (known _ _ c.part_at-n.ensures c.in-Bit.is) (fit t (goal.at.value-leaf-requires-in-Bit t c).After-part_at-n c.in-Bit.is)
+value-returns-then-left-eq0 t c = sym (ap (λ (x : Expr Variable). flat (numbers.value x (record { word = c.args.r.word; inputs = c.args.r.inputs }))) (expr_empty _ _ _ c.if-left-eq0.true))
 
 pub value-operand-requires : goal.value-operand-requires
 unfolding numbers.value Fit
@@ -218,30 +196,6 @@ pub value-operand-requires-in-Logic : goal.value-operand-requires-in-Logic
 unfolding numbers.value Fit
 value-operand-requires-in-Logic t c = (omega arith, (fit t (goal.at.value-operand-requires-in-Logic t c).After-part_at-n c.in-Logic.is).1.1.1)
 
-pub value-returns-in-Literal : goal.value-returns-in-Literal
-unfolding numbers.value Fit
-value-returns-in-Literal t c = rw (through _ c.leaf.type_inv, c.leaf.ensures, known _ _ c.part_at-n.ensures c.in-Literal.is) (sym (means t (goal.at.value-returns-in-Literal t c).After-part_at-n c.in-Literal.is))
-
-pub value-returns-in-Truth : goal.value-returns-in-Truth
-unfolding numbers.value Fit
-value-returns-in-Truth t c = rw (through _ c.leaf-in-Truth.type_inv, c.leaf-in-Truth.ensures, known _ _ c.part_at-n.ensures c.in-Truth.is) (sym (means t (goal.at.value-returns-in-Truth t c).After-part_at-n c.in-Truth.is))
-
-pub value-returns-in-Input : goal.value-returns-in-Input
-unfolding numbers.value Fit
-value-returns-in-Input t c = rw (through _ c.leaf-in-Input.type_inv, c.leaf-in-Input.ensures, known _ _ c.part_at-n.ensures c.in-Input.is) (sym (means t (goal.at.value-returns-in-Input t c).After-part_at-n c.in-Input.is))
-
-pub value-returns-in-Boolean : goal.value-returns-in-Boolean
-unfolding numbers.value Fit
-value-returns-in-Boolean t c = rw (through _ c.leaf-in-Boolean.type_inv, c.leaf-in-Boolean.ensures, known _ _ c.part_at-n.ensures c.in-Boolean.is) (sym (means t (goal.at.value-returns-in-Boolean t c).After-part_at-n c.in-Boolean.is))
-
-pub value-returns-in-Integer : goal.value-returns-in-Integer
-unfolding numbers.value Fit
-value-returns-in-Integer t c = rw (through _ c.leaf-in-Integer.type_inv, c.leaf-in-Integer.ensures, known _ _ c.part_at-n.ensures c.in-Integer.is) (sym (means t (goal.at.value-returns-in-Integer t c).After-part_at-n c.in-Integer.is))
-
-pub value-returns-in-Bit : goal.value-returns-in-Bit
-unfolding numbers.value Fit
-value-returns-in-Bit t c = rw (through _ c.leaf-in-Bit.type_inv, c.leaf-in-Bit.ensures, known _ _ c.part_at-n.ensures c.in-Bit.is) (sym (means t (goal.at.value-returns-in-Bit t c).After-part_at-n c.in-Bit.is))
-
 pub value-returns-in-Not : goal.value-returns-in-Not
 unfolding numbers.value Fit
 value-returns-in-Not t c = rw (through _ c.flipped.type_inv, c.flipped.ensures, through _ c.operand.type_inv) (not_is (place t (goal.at.value-returns-in-Not t c).After-part_at-n) (sub t (goal.at.value-returns-in-Not t c).After-part_at-n c.in-Not.a) (reads t (goal.at.value-returns-in-Not t c).After-part_at-n) (fit t (goal.at.value-returns-in-Not t c).After-part_at-n c.in-Not.is).0 c.operand.ensures ∙ sym (means t (goal.at.value-returns-in-Not t c).After-part_at-n c.in-Not.is))
@@ -261,3 +215,15 @@ value-returns-in-Comparison t c = rw (through _ c.compared.type_inv, c.compared.
 pub value-returns-else-decided : goal.value-returns-else-decided
 unfolding numbers.value Fit
 value-returns-else-decided t c = rw (through _ c.operand-in-Logic.type_inv) (logic-second (link c.in-Logic.o) (place t (goal.at.value-returns-else-decided t c).After-part_at-n) (sub t (goal.at.value-returns-else-decided t c).After-part_at-n c.in-Logic.a) (sub t (goal.at.value-returns-else-decided t c).After-part_at-n c.in-Logic.b) (reads t (goal.at.value-returns-else-decided t c).After-part_at-n) (fit t (goal.at.value-returns-else-decided t c).After-part_at-n c.in-Logic.is).0 (fit t (goal.at.value-returns-else-decided t c).After-part_at-n c.in-Logic.is).1.0 c.operand-x.ensures (rw (c.decided.ensures, through _ c.operand-x.type_inv) at c.if-decided.false) c.operand-in-Logic.ensures ∙ sym (means t (goal.at.value-returns-else-decided t c).After-part_at-n c.in-Logic.is))
+
+pub value-leaf-requires : goal.value-leaf-requires
+unfolding numbers.value Fit
+value-leaf-requires t c =
+    let e : is_leaf c.part_at-n.result.kind ≡ true = search rules in
+    rw (known _ _ c.part_at-n.ensures refl) (leaf-fits c.part_at-n.result.kind _ _ e (fit t (goal.at.value-leaf-requires t c).After-part_at-n refl))
+
+pub value-returns-in_default : goal.value-returns-in_default
+unfolding numbers.value Fit
+value-returns-in_default t c =
+    let e : is_leaf c.part_at-n.result.kind ≡ true = search rules in
+    rw (through _ c.leaf.type_inv, c.leaf.ensures, known _ _ c.part_at-n.ensures refl) (leaf_is c.part_at-n.result.kind _ _ _ e ∙ sym (means t (goal.at.value-returns-in_default t c).After-part_at-n refl))
