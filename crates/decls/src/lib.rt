@@ -11,6 +11,7 @@ use words::kinds;
 mod rows;
 mod step;
 
+// `list` stays a number: `Listed`, `More` and `LeftBy` of specs/Left, and `Opened` and `StepCame` of specs/Came, go by it.
 // Where a reader of declarations is: 0 behind them, else at a declared name of 1 inputs, 2 outputs, 3 internals, 4 integers, 5 at a procedure's.
 #[derive(Clone, Copy)]
 pub struct At {
