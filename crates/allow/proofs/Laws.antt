@@ -1,7 +1,7 @@
 -- The laws of the loop over a body's words, and of what is asked of a name.
 -- Assumes nothing.
 use mathlib.Core.Bool.{Bool, true, false}
-use mathlib.Core.Path.{◌≡◌, refl, sym, ◌∙◌, ap}
+use mathlib.Core.Path.{◌≡◌, refl, sym, ◌∙◌, ap, subst}
 use mathlib.Core.List.{List, [], ◌∷◌}
 use mathlib.Core.Option.{Option, none, some}
 use Prim.Native.Nat.{ℕ, zero, suc, ◌+◌, ◌≤◌, ◌<◌}
@@ -23,7 +23,9 @@ use Rattle.frames.specs.Open.{BindsUnder}
 use Rattle.frames.specs.Meant.{form_for, form_in, span_name, MeantBy}
 use Rattle.uses_law.specs.Uses.{calm, sort_of, held, onward, walk}
 use Rattle.uses_law.proofs.Walked.{walked}
-use Rattle.allow.specs.Steps.{sort_code, sort_at, state_at, ask_code, next_code, asks}
+use Rattle.allow.specs.declared.Sort as coded
+use Rattle.allow.specs.declared.Sort.TheVariants as sort
+use Rattle.allow.specs.Steps.{sort_number, sort_code, sort_at, state_at, ask_code, next_code, asks}
 use Rattle.allow.specs.Allowed.{name_by, bit_by, Fits, Allows}
 use Rattle.allow.proofs.Numbers.{sort_told, sort_low, next_small, walk_on, goes_on}
 
@@ -71,13 +73,36 @@ module _ {s z : List ℕ} {u : Under} {n a b : ℕ} where
   pub asked-name : {r : Meant} {i j : ℕ} → r ≡ meant.Name i j → MeantBy s z u a b r → Fits s z u n a b true
   asked-name {r} e m = record { told = λ bound x. always n (part s a b) ∙ fits_by s z u a b r m true true (rw e refl) (rw e refl) bound x n }
 
-  pub asked-bit : {r : Meant} {i j k : ℕ} → ¬ (n ≡ 0) → r ≡ meant.Bit i j k → MeantBy s z u a b r → Fits s z u n a b (ltb 1 n)
+  asked-bit : {r : Meant} {i j k : ℕ} → ¬ (n ≡ 0) → r ≡ meant.Bit i j k → MeantBy s z u a b r → Fits s z u n a b (ltb 1 n)
   asked-bit {r} h e m = record { told = λ bound x. only_bit n (part s a b) h ∙ fits_by s z u a b r m false true (rw e refl) (rw e refl) bound x n }
 
   pub asked-neither : {r : Meant} → ¬ (n ≡ 0) → r ≡ meant.Neither → MeantBy s z u a b r → Fits s z u n a b false
   asked-neither {r} h e m = record { told = λ bound x. never n (part s a b) h ∙ fits_by s z u a b r m false false (rw e refl) (rw e refl) bound x n }
 
+  -- asked for a name, and none was found
+  pub asked-other : {r : Meant} → n ≡ 1 → ((i j : ℕ) → r ≡ meant.Name i j → ⊥) → MeantBy s z u a b r → Fits s z u n a b false
+  asked-other {r} e other m = go r refl
+    where
+      go : (q : Meant) → r ≡ q → Fits s z u n a b false
+      go (meant.Name i j) is = absurd (other i j is)
+      go (meant.Bit i j k) is = let f : ltb 1 n ≡ false = rw e refl in subst (Fits s z u n a b) f (asked-bit (omega arith) is m)
+      go meant.Neither is = asked-neither (omega arith) is m
+
+  pub asked-either : {r : Meant} {i j k : ℕ} → n ≡ 2 → r ≡ meant.Bit i j k → MeantBy s z u a b r → Fits s z u n a b true
+  asked-either e is m = let f : ltb 1 n ≡ true = rw e refl in subst (Fits s z u n a b) f (asked-bit (omega arith) is m)
+
 -- ---- one word
+
+-- `endproc` alone has the last number
+pub only_last : (c : coded.Sort) → (c ≡ sort.Last → ⊥) → ¬ (sort_number c ≡ 7)
+only_last sort.Other other e = absurd (omega arith)
+only_last sort.Name other e = absurd (omega arith)
+only_last sort.Changes other e = absurd (omega arith)
+only_last sort.Becomes other e = absurd (omega arith)
+only_last sort.Index other e = absurd (omega arith)
+only_last sort.Opens other e = absurd (omega arith)
+only_last sort.Closes other e = absurd (omega arith)
+only_last sort.Last other e = other refl
 
 some_same : {x y : Bool} → some x ≡ some y → x ≡ y
 some_same e = cc

@@ -2,6 +2,26 @@
 -- Assumes nothing.
 use Rattle.std.specs.Prelude.{Bool, true, cond, List, ℕ, zero, suc, ◌+◌, ◌-◌, eqb, ltb}
 use Rattle.uses_law.specs.Uses.{Sort, a_name, changes, becomes, index, opens, closes, last, other, State, calm, named, changing, opened, changed, passing}
+use Rattle.allow.specs.declared.Sort as coded
+use Rattle.allow.specs.declared.Sort.TheVariants as sort
+use Rattle.allow.specs.declared.Asked.{Asked}
+use Rattle.allow.specs.declared.Asked.TheVariants as ask
+
+-- the numbers of what the code has
+abbrev pub sort_number : coded.Sort → ℕ
+sort_number sort.Other = 0
+sort_number sort.Name = 1
+sort_number sort.Changes = 2
+sort_number sort.Becomes = 3
+sort_number sort.Index = 4
+sort_number sort.Opens = 5
+sort_number sort.Closes = 6
+sort_number sort.Last = 7
+
+abbrev pub ask_number : Asked → ℕ
+ask_number ask.Nothing = 0
+ask_number ask.Name = 1
+ask_number ask.NameOrBit = 2
 
 -- the number of a word's sort, by that of its kind
 unfoldable pub sort_code : ℕ → ℕ

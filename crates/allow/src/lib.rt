@@ -4,31 +4,48 @@
 ghost use Rattle.std.specs.Prelude.{◌≤◌, length};
 ghost use Rattle.hand.specs.Along.{Near};
 ghost use Rattle.parts.specs.Beside.{beside};
+ghost use Rattle.allow.specs.Steps.{ask_number};
 ghost use Rattle.allow.specs.Allowed.{Fits, Allows};
 
 use frames::{Meant, Under, follow};
 use hand::Here;
+use words::kinds;
 
 mod steps;
 
-// Whether the name from a to b stands for what is asked of it: 0 nothing, 1 a name, 2 a name or a bit.
-fn fits(s: &[u8], t: &[u8], u: Under, asked: u8, a: u16, b: u16) -> bool
+// What a word of a body is to the name before it or behind it: `raise`, `lower` or `invert` changes one, `endproc` is the last word.
+#[derive(Clone, Copy, PartialEq, Eq)]
+pub enum Sort {
+    Other,
+    Name,
+    Changes,
+    Becomes,
+    Index,
+    Opens,
+    Closes,
+    Last,
+}
+
+// What is asked of a name: nothing, that it stands for a name, or for a name or a bit.
+#[derive(Clone, Copy, PartialEq, Eq)]
+pub enum Asked {
+    Nothing,
+    Name,
+    NameOrBit,
+}
+
+// Whether the name from a to b stands for what is asked of it.
+fn fits(s: &[u8], t: &[u8], u: Under, asked: Asked, a: u16, b: u16) -> bool
     requires { length s.now ≤ 8192 }
-    ensures { Fits s.now (beside t.now).names u asked a b result }
+    ensures { Fits s.now (beside t.now).names u (ask_number asked) a b result }
 {
-    if asked == 0 {
-        return true;
-    }
-    match follow::meant(s, t, u, a, b) {
-        Meant::Name { a, b } => {
-            return true;
-        }
-        Meant::Bit { a, b, j } => {
-            return asked > 1;
-        }
-        Meant::Neither => {
-            return false;
-        }
+    match asked {
+        Asked::Nothing => true,
+        Asked::Name => matches!(follow::meant(s, t, u, a, b), Meant::Name { .. }),
+        Asked::NameOrBit => matches!(
+            follow::meant(s, t, u, a, b),
+            Meant::Name { .. } | Meant::Bit { .. }
+        ),
     }
 }
 
@@ -42,14 +59,14 @@ pub fn allowed(s: &[u8], t: &[u8], u: Under, first: Here) -> bool
     let mut a: u16 = 0;
     let mut b: u16 = 0;
     loop {
-        if word.kind > 62 {
+        if word.kind > kinds::ENDCOMPRESS {
             return true;
         }
         let sort = steps::sort_of(word.kind);
         if !fits(s, t, u, steps::asked(state, sort), a, b) {
             return false;
         }
-        if sort == 7 {
+        if let Sort::Last = sort {
             return true;
         }
         state = steps::next(state, sort);

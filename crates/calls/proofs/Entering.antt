@@ -3,7 +3,7 @@
 use mathlib.Core.Bool.{Bool, true, false, cond}
 use mathlib.Core.Path.{◌≡◌, refl, sym, ◌∙◌, ap, ap₂, subst}
 use mathlib.Core.List.{List, [], ◌∷◌, map}
-use mathlib.Core.Option.{Option, none, some}
+use mathlib.Core.Option.{none, some}
 use Prim.Native.Nat.{ℕ, suc, ◌+◌, ◌-◌, ◌*◌, ◌≤◌, ◌<◌}
 use native.Mathlib.Omega.{arith}
 use lib.Dec.{ltb, leb}
@@ -31,9 +31,7 @@ use Rattle.frames.specs.Layout.{procedure_at, formals_at, body_from, frame_bytes
 use Rattle.frames.specs.Open.{Open, Handed, called_under}
 use Rattle.frames.specs.Put.{Puts, frame_in, wiped, zero_from, Over}
 use Rattle.frames.specs.Row.{row_in}
-use Rattle.frames.specs.Meant.{placed}
 use Rattle.frames.proofs.Formal.{none-some}
-use Rattle.frames.proofs.Listed.{placed-some}
 use Rattle.frames.proofs.Heads.{Head, head_of, word_moves}
 use Rattle.frames.proofs.Putting.{puts_size, puts_names, puts_on, zeros_clean, wiped-back, frame_caller, frame_procedure, frame_other, over_start, over_frame}
 use Rattle.frames.proofs.Stays.{Same, places_stay, all-parts_stay, all-levels_stay, nested-few, chain_has, look_stays}
@@ -60,9 +58,9 @@ pub record Ends (z : List ℕ) (u : Under) (row count to : ℕ) : Type 0 where
 some_is : {a b : ℕ} → some a ≡ some b → a ≡ b
 some_is e = cc
 
-pub end_known : (z : List ℕ) (u : Under) (row count to : ℕ) → ¬ (to ≡ 65535) → to ≤ 65535 → placed to ≡ frame_end z u row count → Ends z u row count to
+pub end_known : {z : List ℕ} {u : Under} {row count to : ℕ} → some to ≡ frame_end z u row count → Ends z u row count to
 unfolding frame_end
-end_known z u row count to h g e = go (ltb row no_place) (ltb u.depth no_place) (leb here 16384) (zero_from z u.top (here - u.top)) refl refl refl refl (sym e ∙ placed-some to (omega arith))
+end_known {z} {u} {row} {count} {to} e = go (ltb row no_place) (ltb u.depth no_place) (leb here 16384) (zero_from z u.top (here - u.top)) refl refl refl refl (sym e)
   where
     here : ℕ
     here = u.top + 4 + count * 4
@@ -150,8 +148,7 @@ settled_not {u = u} {to = to} q a e w r = rw r (record { behind = refl; allows =
 
 -- ---- the whole
 
-module _ (s t : List ℕ) (u : Under) (first opener : Here) (row p count to : ℕ) (near : Near s first) (opens : Begins s first.next opener) (rowed : placed row ≡ row_in s (beside t).names u.seen (part s first.place first.next))
-    (at : p ≡ procedure_at (beside t).names row) (counted : count ≡ length (formals_at s p)) (ended : placed to ≡ frame_end (beside t).names u row count) where
+module _ (s t : List ℕ) (u : Under) (first opener : Here) (near : Near s first) (opens : Begins s first.next opener) where
   abbrev z : List ℕ
   z = (beside t).names
 
@@ -173,45 +170,40 @@ module _ (s t : List ℕ) (u : Under) (first opener : Here) (row p count to : �
   named : (w : Word) (ws : List Word) → Stands s first (w ∷ ws) → (moved (told_at u.at) (name_at w)).bytes ≡ part s first.place first.next
   named w ws st = sym st.0.bytes
 
-  -- no frame can be written: there is no such procedure
-  pub enters_none : (v : List ℕ) (h : Handing) (hands : Hands s t v u opener.next 0 h) (word : Here) (follows : Begins s h.word.next word) (r : Entered) → to ≡ 65535 → r ≡ record { word = word; ok = false; under = u; body = word } → Enters s t v u first r
-  enters_none v h hands word follows r none_there is =
-      rw is
-      (record {
-        near = follows.near;
-        past = past v 0 h hands word follows;
-        tree = hands.beyond.tree;
-        size = hands.beyond.size;
-        wrote = hands.beyond.kept refl;
-        told = λ w o c tail rest st f m ts few y. ((read v 0 h hands word follows w o c tail rest st f m ts few y).0, λ ps bound op. stays (moved (told_at u.at) (name_at w)) (named w (o ∷ tail) st) (stand_for u bound ts) ps bound op);
-      })
-    where
-      stays : (n : Name) → n.bytes ≡ part s first.place first.next → (es : List Term) (ps : List unexpanded.Procedure) (bound : List (Bound Term)) → Open s z ps bound u → called ps u.at n es ≡ alone (call n es)
-      stays n bytes es ps bound op = go (row_in s z u.seen n.bytes) refl
-        where
-          go : (o : Option ℕ) → row_in s z u.seen n.bytes ≡ o → called ps u.at n es ≡ alone (call n es)
-          go none q = calls-none s z n u.seen ps op.rows q u.at es
-          go (some i) q =
-              let k : placed row ≡ some i = rowed ∙ ap (row_in s z u.seen) (sym bytes) ∙ q in
-              let c = calls-row s z n u.seen ps i op.rows q in
-              absurd (other i k c.less)
-            where
-              other : (i : ℕ) → placed row ≡ some i → i < u.seen → ⊥
-              other i k less = placing (ltb row no_place) refl k
-                where
-                  placing : (b : Bool) → ltb row no_place ≡ b → cond b (some row) none ≡ some i → ⊥
-                  placing true e q =
-                      let same : row ≡ i = some_is q in
-                      none-some (ap placed (sym none_there) ∙ ended ∙ ap (frame_end z u row) (counted ∙ ap (λ (l : ℕ). length (formals_at s l)) at) ∙ end_there {ps = ps} {bound = bound} row op (omega (arith, same, less)) (ltb-true row no_place e))
-                  placing false e q = none-some q
+  -- nothing is written, and the call stays
+  module _ (v : List ℕ) (h : Handing) (hands : Hands s t v u opener.next 0 h) (word : Here) (follows : Begins s h.word.next word) (r : Entered) (is : r ≡ record { word = word; ok = false; under = u; body = word }) where
+    enters_still : ((n : Name) → n.bytes ≡ part s first.place first.next → (es : List Term) (ps : List unexpanded.Procedure) (bound : List (Bound Term)) → Open s z ps bound u → called ps u.at n es ≡ alone (call n es)) → Enters s t v u first r
+    enters_still stays =
+        rw is
+        (record {
+          near = follows.near;
+          past = past v 0 h hands word follows;
+          tree = hands.beyond.tree;
+          size = hands.beyond.size;
+          wrote = hands.beyond.kept refl;
+          told = λ w o c tail rest st f m ts few y. ((read v 0 h hands word follows w o c tail rest st f m ts few y).0, λ ps bound op. stays (moved (told_at u.at) (name_at w)) (named w (o ∷ tail) st) (stand_for u bound ts) ps bound op);
+        })
+
+    -- there is no such procedure
+    pub enters_none : none ≡ row_in s z u.seen (part s first.place first.next) → Enters s t v u first r
+    enters_none e = enters_still (λ n bytes es ps bound op. calls-none s z n u.seen ps op.rows (ap (row_in s z u.seen) bytes ∙ sym e) u.at es)
+
+    -- no frame can be written: under what is known of the area that is not so
+    pub enters_full : {row p count : ℕ} → some row ≡ row_in s z u.seen (part s first.place first.next) → p ≡ procedure_at z row → count ≡ length (formals_at s p) → none ≡ frame_end z u row count → Enters s t v u first r
+    enters_full {row} {p} {count} rowed at counted full = enters_still stays
+      where
+        stays : (n : Name) → n.bytes ≡ part s first.place first.next → (es : List Term) (ps : List unexpanded.Procedure) (bound : List (Bound Term)) → Open s z ps bound u → called ps u.at n es ≡ alone (call n es)
+        stays n bytes es ps bound op =
+            let less = row_less s z (part s first.place first.next) u.seen row (sym rowed) in
+            none-some (full ∙ ap (frame_end z u row) (counted ∙ ap (λ (l : ℕ). length (formals_at s l)) at) ∙ end_there {ps = ps} {bound = bound} row op less (omega (arith, less, op.some, op.room)))
 
   -- a frame is written
-  module _ (ends : Ends z u row count to) (v₁ : List ℕ) (h : Handing) (hands : Hands s t v₁ u opener.next count h) (word : Here) (follows : Begins s h.word.next word) where
+  module _ (row p count to : ℕ) (rowed : some row ≡ row_in s z u.seen (part s first.place first.next)) (at : p ≡ procedure_at z row) (counted : count ≡ length (formals_at s p)) (ends : Ends z u row count to) (v₁ : List ℕ) (h : Handing) (hands : Hands s t v₁ u opener.next count h) (word : Here) (follows : Begins s h.word.next word) where
     abbrev place : ℕ
     place = procedure_at z row
 
     found : row_in s z u.seen (part s first.place first.next) ≡ some row
-    found = sym rowed ∙ placed-some row ends.found
+    found = sym rowed
 
     calls : (n : Name) → n.bytes ≡ part s first.place first.next → (ps : List unexpanded.Procedure) (bound : List (Bound Term)) → Open s z ps bound u → Calls s z n ps u.seen row
     calls n bytes ps bound op = calls-row s z n u.seen ps row op.rows (ap (row_in s z u.seen) bytes ∙ found)

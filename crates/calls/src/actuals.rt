@@ -6,6 +6,7 @@ ghost use Rattle.calls.specs.Hands.{hand_in, Hands};
 
 use frames::{Under, put};
 use hand::Here;
+use words::kinds;
 
 // The word behind the actuals, and how many there are.
 #[derive(Clone, Copy)]
@@ -29,7 +30,7 @@ pub fn hand_over(s: &[u8], t: &mut [u8], u: Under, from: u16, room: u16) -> Hand
     ensures { Hands s.now t.old t.new u from room result }
 {
     let first = hand::word_from(s, from);
-    if first.kind == 15 {
+    if first.kind == kinds::CLOSE {
         return Handing {
             word: first,
             count: 0,
@@ -42,10 +43,12 @@ pub fn hand_over(s: &[u8], t: &mut [u8], u: Under, from: u16, room: u16) -> Hand
         let e = sizes::sized(s, t, u, word, 32);
         put_if(t, room, u.top, i, at, e.parts, e.levels);
         i += 1;
-        let w = e.word;
-        if w.kind != 13 {
-            return Handing { word: w, count: i };
+        if e.word.kind != kinds::COMMA {
+            return Handing {
+                word: e.word,
+                count: i,
+            };
         }
-        at = w.next;
+        at = e.word.next;
     }
 }

@@ -12,6 +12,7 @@ use hand::Here;
 pub mod actuals;
 mod room;
 
+// `ok` stays beside what it tells of: `Expands`, `Outcome` and `Wrote` of specs/Enters, and laws of measure and stmts on them, name `ok`, `under` and `body` each by itself.
 // The word behind a call; whether it is expanded, and then under what its body is read, and that one's first word.
 #[derive(Clone, Copy)]
 pub struct Entered {
@@ -49,11 +50,11 @@ fn settled(
 {
     put::put_frame(t, u.top, u.frame, p);
     let v = Under {
-        at: u.at,
         frame: u.top,
         depth: u.depth + 1,
         seen: row,
         top: to,
+        ..u
     };
     if allow::allowed(s, t, v, body) {
         return Entered {
@@ -73,14 +74,16 @@ pub fn enter(s: &[u8], t: &mut [u8], u: Under, first: Here) -> Entered
     ensures { Enters s.now t.old t.new u first result }
 {
     let open = hand::word_from(s, first.next);
-    let row = find::procedure(s, t, u.seen, first.place, first.next);
-    let p = area::procedure_at(t, row);
-    let head = list::head_of(s, p as usize);
-    let to = room::frame_end(t, u, row, head.count);
-    if to == 65535 {
+    let Some(row) = find::procedure(s, t, u.seen, first.place, first.next) else {
         let h = actuals::hand_over(s, t, u, open.next, 0);
         return stays(hand::word_from(s, h.word.next), u);
-    }
+    };
+    let p = area::procedure_at(t, row);
+    let head = list::head_of(s, usize::from(p));
+    let Some(to) = room::frame_end(t, u, row, head.count) else {
+        let h = actuals::hand_over(s, t, u, open.next, 0);
+        return stays(hand::word_from(s, h.word.next), u);
+    };
     let h = actuals::hand_over(s, t, u, open.next, head.count);
     let word = hand::word_from(s, h.word.next);
     if h.count != head.count {

@@ -67,9 +67,6 @@ pub record Seeking (s : List ℕ) (first to : ℕ) (x : List ℕ) (from : ℕ) :
   pub inside : from ≤ length s
   pub told : (ns : List Name) → Row s first ns to → (ms : List Name) × Row s from ms to × (has_name (bytes_of ns) x ≡ has_name (bytes_of ms) x)
 
-pub seek_start : {s : List ℕ} {first to : ℕ} {x : List ℕ} → first ≤ length s → Seeking s first to x first
-seek_start h = record { inside = h; told = λ ns r. (ns, r, refl) }
-
 module _ {s : List ℕ} {first to : ℕ} {x : List ℕ} {from : ℕ} (g : Seeking s first to x from) where
   pub seek_over : to ≤ from → EarlierCame s first to x false
   unfolding has_name
@@ -111,14 +108,6 @@ module _ {s : List ℕ} {first to : ℕ} {x : List ℕ} {from : ℕ} (g : Seekin
             let k₁ : c.next ≡ behind u = word_end b₁.near st₁.0 in
             let z : same_bytes n.bytes x ≡ false = ap (λ (m : Name). same_bytes m.bytes x) e ∙ sym (same_bytes_lem v.bytes x) ∙ ap (λ (y : List ℕ). same y x) (sym st.0.bytes) ∙ h in
             (ms, subst (λ (p : ℕ). Row s p ms to) (sym k₁) r, rw z refl)
-
--- ---- a name again
-
-pub again-earlier : {s t : List ℕ} {names n first to : ℕ} {x : List ℕ} {r : Bool} → EarlierCame s first to x r → r ≡ true → AgainCame s t names n first to x true
-again-earlier {s} {t} {names} {n} {x = x} a e = record { told = λ ns r. ap (λ (b : Bool). cond b true (known_in s t names n x)) (sym e ∙ a.told ns r) }
-
-pub again-known : {s t : List ℕ} {names n first to : ℕ} {x : List ℕ} {r o : Bool} → EarlierCame s first to x r → r ≡ false → o ≡ known_in s t names n x → AgainCame s t names n first to x o
-again-known {s} {t} {names} {n} {x = x} a e k = record { told = λ ns r. k ∙ ap (λ (b : Bool). cond b true (known_in s t names n x)) (sym e ∙ a.told ns r) }
 
 -- ---- the formals
 

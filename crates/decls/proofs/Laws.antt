@@ -7,6 +7,7 @@ use Prim.Native.Nat.{ℕ, zero, suc, ◌+◌, ◌-◌, ◌≤◌, ◌<◌}
 use native.Mathlib.Omega.{arith}
 use native.Mathlib.Decide.{dec_lt}
 use lib.Dec.{eqb}
+use mir.Val.{bool_byte}
 use lib.ListN.{length}
 use borrow.Author.Tests.{ne_eqb, eqb-true, eqb-false, ltb-false}
 use Rattle.ll1.proofs.Tests.{has, begin_row, pick}
@@ -182,7 +183,7 @@ module _ {s : List ℕ} {h : Here} (n : Near s h) where
         let t : Stands s v tail = on h b st a in
         (j, sym (called-row s BooleanValue truth_row all_truths v tail j t p₁), (tail, t, row₁))
 
-    pub boolean-true : v.kind ≡ 32 → BooleanStarted s h (record { word = w; value = 1 })
+    boolean-true : v.kind ≡ 32 → BooleanStarted s h (record { word = w; value = 1 })
     boolean-true d = record { near = c.near; later = twice_later; told = told }
       where
         told : (ws : Text) → Stands s h ws → (f k : ℕ) (x : Bool) (rest : Text) → Told f BooleanStart k ws x rest → Stands s w rest × (1 ≡ as_bit x)
@@ -191,7 +192,7 @@ module _ {s : List ℕ} {h : Here} (n : Near s h) where
             let (u, a, z) = subst (BooleanValueRow mid x rest) (q ∙ ap truth_row d) row in
             (on v c t a, ap as_bit (sym z))
 
-    pub boolean-false : ¬ (v.kind ≡ 32) → BooleanStarted s h (record { word = w; value = 0 })
+    boolean-false : ¬ (v.kind ≡ 32) → BooleanStarted s h (record { word = w; value = 0 })
     boolean-false d = record { near = c.near; later = twice_later; told = told }
       where
         one-row : truth_row v.kind ≡ 1
@@ -202,6 +203,13 @@ module _ {s : List ℕ} {h : Here} (n : Near s h) where
             let (i, q, (mid, t, row)) = boolean-value ws st f k x rest y in
             let (u, a, z) = subst (BooleanValueRow mid x rest) (q ∙ one-row) row in
             (on v c t a, ap as_bit (sym z))
+
+    pub boolean-by : {n : ℕ} → n ≡ bool_byte (eqb v.kind 32) → BooleanStarted s h (record { word = w; value = n })
+    boolean-by d = rw d (go (eqb v.kind 32) refl)
+      where
+        go : (t : Bool) → eqb v.kind 32 ≡ t → BooleanStarted s h (record { word = w; value = bool_byte t })
+        go true q = boolean-true (eqb-true v.kind 32 q)
+        go false q = boolean-false (eqb-false v.kind 32 q)
 
     pub integer-value : IntegerStarted s h (record { word = w; value = v.value })
     integer-value = record { near = c.near; later = twice_later; told = told }

@@ -3,7 +3,7 @@
 use mathlib.Core.Bool.{Bool, true, false, cond}
 use mathlib.Core.Path.{◌≡◌, refl, sym, ◌∙◌, ap, subst}
 use mathlib.Core.List.{List, [], ◌∷◌}
-use Prim.Native.Nat.{ℕ, ◌+◌, ◌*◌, ◌≤◌, ◌<◌, min}
+use Prim.Native.Nat.{ℕ, ◌+◌, ◌*◌, ◌≤◌, min}
 use native.Mathlib.Omega.{arith}
 use native.Mathlib.Nat.{min-le_right}
 use lib.Dec.{eqb}
@@ -64,9 +64,6 @@ pub record Counting (s : List ℕ) (a₀ a : At) (n : ℕ) : Type 0 where
   pub small : n ≤ 255
   pub told : (ds : Several) (rest : Text) → Left s a₀ ds rest → (es : Several) × Left s a es rest × (cap (outputs_of ds) ≡ cap (n + outputs_of es))
 
-pub count-start : {s : List ℕ} {a : At} → Ready s a → Counting s a a 0
-count-start x = record { ready = x; small = omega arith; told = λ ds rest l. let e : outputs_of ds ≡ 0 + outputs_of ds = omega arith in (ds, l, ap cap e) }
-
 count-variable : (d : Declaration) (k n m : ℕ) → k ≡ tag_of d → m ≡ cond (eqb k 1) (cap (n + 1)) n → n ≤ 255 → (o : ℕ) → cap (n + (an_output d + o)) ≡ cap (m + o)
 count-variable (inputs x e) k n m q r h o = let z : m ≡ n = rw q at r in omega (arith, z)
 count-variable (outputs x e b) k n m q r h o = let z : m ≡ min (n + 1) 255 = rw q at r in omega (arith, z)
@@ -109,9 +106,6 @@ pub record Going (s : List ℕ) (a₀ : At) (m₀ : Marks) (t₀ : List ℕ) (a 
   pub told : (ds : Several) (rest : Text) → Left s a₀ ds rest
       → (es : Several) × Left s a es rest × (EachLies s es → EachLies s ds) × (enter_each s ds (held_of m₀ 0 t₀) ≡ enter_each s es (held_of m n t)) × (a₀.word.place * 2 + asked ds ≤ a.word.place * 2 + asked es)
 
-pub going_start : {s : List ℕ} {a : At} {m : Marks} {t : List ℕ} → Ready s a → m.names ≡ 0 → Going s a m t a m 0 t
-going_start x e = record { ready = x; long = refl; most = omega (arith, e); few = λ z. omega (arith, e); told = λ ds rest l. (ds, l, λ y. y, refl, omega arith) }
-
 enter-cons : (s : List ℕ) (d : DeclaredName) (ds : Several) (g h : Held) → h ≡ enter_one s d g → enter_each s (d ∷ ds) g ≡ enter_each s ds h
 unfolding enter_each
 enter-cons s d ds g h e = rw e refl
@@ -120,23 +114,7 @@ asked-cons : (d : DeclaredName) (ds : Several) → asked (d ∷ ds) ≡ asked_by
 unfolding asked
 asked-cons d ds = refl
 
--- the room that a name or a procedure finds
-pub record Room (s : List ℕ) (a : At) (m : Marks) (n : ℕ) (t : List ℕ) : Type 0 where
-  pub short : length s ≤ 8192
-  pub long : 16384 ≤ length t
-  pub names : m.names < 4096
-  pub procedures : n < 4096
-  pub place : a.word.place < 8192
-  pub next : a.word.next ≤ length s
-
 module _ {s : List ℕ} {a₀ : At} {m₀ : Marks} {t₀ : List ℕ} {a : At} {m : Marks} {n : ℕ} {t : List ℕ} (g : Going s a₀ m₀ t₀ a m n t) where
-  pub going-room : ¬ (a.list ≡ 0) → a.word.kind ≡ 0 → 16384 ≤ length t₀ → Room s a m n t
-  going-room e k h =
-      let w = g.ready.near in
-      let p = w.more (omega (arith, k)) in
-      let f = g.few (omega arith) in
-      record { short = w.short; long = omega (arith, g.long, h); names = omega (arith, p, f, w.inside, w.short); procedures = omega (arith, p, f, w.inside, w.short); place = omega (arith, p, w.inside, w.short); next = w.inside }
-
   going-one : {x : Turn} {r : Marks} {o : ℕ} {u : List ℕ} → ¬ (a.list ≡ 0) → a.word.kind ≡ 0 → 16384 ≤ length t₀ → StepCame s a x → length u ≡ length t → r.names + o ≡ m.names + n + 1
       → ((d : DeclaredName) → IsOne s d x.item → held_of r o u ≡ enter_one s d (held_of m n t)) → Going s a₀ m₀ t₀ x.at r o u
   going-one {x} {r} {o} {u} e k h c l z q =

@@ -6,10 +6,12 @@ ghost use Rattle.decls.specs.Came.{Ready, OutputsCame, EnterCame, Came};
 
 use hand::Here;
 use names::{Item, Marks, enter};
+use words::kinds;
 
 mod rows;
 mod step;
 
+// `list` stays a number: `Listed`, `More` and `LeftBy` of specs/Left, and `Opened` and `StepCame` of specs/Came, go by it.
 // Where a reader of declarations is: 0 behind them, else at a declared name of 1 inputs, 2 outputs, 3 internals, 4 integers, 5 at a procedure's.
 #[derive(Clone, Copy)]
 pub struct At {
@@ -54,17 +56,11 @@ fn outputs(s: &[u8], first: At) -> u8
     let mut at = first;
     let mut n: u8 = 0;
     loop {
-        let l = at.list;
-        if l == 0 {
-            return n;
-        }
-        let w = at.word;
-        if w.kind != 0 {
+        if at.list == 0 || at.word.kind != kinds::NAME {
             return n;
         }
         let t = step::step(s, at);
-        let i = t.item;
-        n = enter::counted(n, i.kind, 1);
+        n = enter::counted(n, t.item.kind, 1);
         at = t.at;
     }
 }
@@ -78,31 +74,20 @@ fn enter_all(s: &[u8], t: &mut [u8], first: At, marks: Marks) -> Read
     let mut m = marks;
     let mut n: u16 = 0;
     loop {
-        let l = at.list;
-        let w = at.word;
-        if l == 0 {
+        if at.list == 0 || at.word.kind != kinds::NAME {
             return Read {
                 marks: m,
                 procedures: n,
-                word: w,
-            };
-        }
-        if w.kind != 0 {
-            return Read {
-                marks: m,
-                procedures: n,
-                word: w,
+                word: at.word,
             };
         }
         let x = step::step(s, at);
-        let i = x.item;
-        if i.kind == 4 {
-            m = rows::procedure_in(s, t, m, n, i);
+        if x.item.kind == 4 {
+            m = rows::procedure_in(s, t, m, n, x.item);
             n += 1;
-            at = x.at;
-            continue;
+        } else {
+            m = rows::variable_in(s, t, m, n, x.item);
         }
-        m = rows::variable_in(s, t, m, n, i);
         at = x.at;
     }
 }

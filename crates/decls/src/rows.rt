@@ -6,14 +6,15 @@ ghost use Rattle.decls.specs.Came.{EarlierCame, AgainCame, FormalsCame, Variable
 
 use hand::{Here, word_from};
 use names::{Item, Marks, enter, look};
+use words::kinds;
 
 // The place behind the name of a row.
+#[tactic(auto, unfolding(crate::specs::Held::row_end))]
 fn end_of(t: &[u8], i: usize) -> usize
     requires { i * 4 + 4 ≤ length t.now }
     ensures { result ≡ row_end t.now i }
 {
-    let n = t[i * 4 + 3];
-    look::place_at(t, i) + n as usize
+    look::place_at(t, i) + usize::from(t[i * 4 + 3])
 }
 
 // Whether one of so many procedures has the name from a to b.
@@ -21,30 +22,24 @@ fn called(s: &[u8], t: &[u8], n: u16, a: u16, b: u16) -> bool
     requires { (16384 ≤ length t.now) × (n ≤ 4096) }
     ensures { result ≡ row_in s.now t.now n (part s.now a b) }
 {
-    let mut i = n;
-    loop {
-        if i == 0 {
-            return false;
-        }
-        i -= 1;
-        let row = 4095 - i as usize;
+    for i in (0..usize::from(n)).rev() {
+        let row = 4095 - i;
         let p = look::place_at(t, row);
         let q = end_of(t, row);
-        if words::same_name(s, p, q, a as usize, b as usize) {
+        if words::same_name(s, p, q, usize::from(a), usize::from(b)) {
             return true;
         }
     }
+    false
 }
 
 // Whether a declared name or one of so many procedures has the name from a to b.
+#[tactic(auto, unfolding(crate::specs::Held::known_in))]
 fn known(s: &[u8], t: &[u8], names: u16, n: u16, a: u16, b: u16) -> bool
     requires { (16384 ≤ length t.now) × (n ≤ 4096) × (names ≤ 4096) }
     ensures { result ≡ known_in s.now t.now names n (part s.now a b) }
 {
-    if look::known(look::find(s, t, names, a, b)) {
-        return true;
-    }
-    called(s, t, n, a, b)
+    look::known(look::find(s, t, names, a, b)) || called(s, t, n, a, b)
 }
 
 // Whether one of the names between two places has the name from a to b.
@@ -58,7 +53,7 @@ fn earlier(s: &[u8], first: u16, to: u16, a: u16, b: u16) -> bool
             return false;
         }
         let w = word_from(s, from);
-        if w.kind > 62 {
+        if w.kind > kinds::ENDCOMPRESS {
             return false;
         }
         if words::same_name(s, w.place as usize, w.next as usize, a as usize, b as usize) {
@@ -74,10 +69,7 @@ fn again(s: &[u8], t: &[u8], names: u16, n: u16, first: u16, to: u16, h: Here) -
     requires { (length s.now ≤ 8192) × (first ≤ length s.now) × (16384 ≤ length t.now) × (n ≤ 4096) × (names ≤ 4096) }
     ensures { AgainCame s.now t.now names n first to (part s.now h.place h.next) result }
 {
-    if earlier(s, first, to, h.place, h.next) {
-        return true;
-    }
-    known(s, t, names, n, h.place, h.next)
+    earlier(s, first, to, h.place, h.next) || known(s, t, names, n, h.place, h.next)
 }
 
 // The least place of fault 6 with the formals from a place on.
@@ -89,12 +81,12 @@ fn formals(s: &[u8], t: &[u8], names: u16, n: u16, first: u16, old: u16) -> u16
     let mut six = old;
     loop {
         let w = word_from(s, from);
-        if w.kind != 0 {
+        if w.kind != kinds::NAME {
             return six;
         }
         six = enter::place_if(again(s, t, names, n, first, from, w), w.place, six);
         let c = word_from(s, w.next);
-        if c.kind != 13 {
+        if c.kind != kinds::COMMA {
             return six;
         }
         from = c.next;
@@ -102,19 +94,11 @@ fn formals(s: &[u8], t: &[u8], names: u16, n: u16, first: u16, old: u16) -> u16
 }
 
 // The marks with another place of fault 6.
+#[tactic(auto, unfolding(crate::specs::Held::with_six))]
 fn with_six(m: Marks, six: u16) -> Marks
     ensures { result ≡ with_six m six }
 {
-    Marks {
-        six,
-        nine: m.nine,
-        names: m.names,
-        inputs: m.inputs,
-        outputs: m.outputs,
-        low: m.low,
-        bits: m.bits,
-        word: m.word,
-    }
+    Marks { six, ..m }
 }
 
 // A variable entered: no procedure before it has its name.

@@ -7,19 +7,18 @@ ghost use Rattle.decls.specs.Left.{list_of};
 use crate::{At, Named, Started, Turn};
 use hand::{Here, word_from};
 use names::Item;
+use words::kinds;
 
 // `.H` or `.L`, or neither.
 fn ending(s: &[u8], h: Here) -> Here
     requires { Near s.now h }
     ensures { Ended s.now h result }
 {
-    if h.kind == 10 {
-        return word_from(s, h.next);
+    if h.kind == kinds::HIGH || h.kind == kinds::LOW {
+        word_from(s, h.next)
+    } else {
+        h
     }
-    if h.kind == 11 {
-        return word_from(s, h.next);
-    }
-    h
 }
 
 // `= true` or `= false`, or neither.
@@ -27,15 +26,14 @@ fn boolean_start(s: &[u8], h: Here) -> Started
     requires { Near s.now h }
     ensures { BooleanStarted s.now h result }
 {
-    if h.kind != 7 {
+    if h.kind != kinds::IS {
         return Started { word: h, value: 0 };
     }
     let v = word_from(s, h.next);
-    let w = word_from(s, v.next);
-    if v.kind == 32 {
-        return Started { word: w, value: 1 };
+    Started {
+        word: word_from(s, v.next),
+        value: u16::from(v.kind == kinds::TRUE),
     }
-    Started { word: w, value: 0 }
 }
 
 // `= ` number, or nothing.
@@ -43,14 +41,27 @@ fn integer_start(s: &[u8], h: Here) -> Started
     requires { Near s.now h }
     ensures { IntegerStarted s.now h result }
 {
-    if h.kind != 7 {
+    if h.kind != kinds::IS {
         return Started { word: h, value: 0 };
     }
     let v = word_from(s, h.next);
-    let w = word_from(s, v.next);
     Started {
-        word: w,
+        word: word_from(s, v.next),
         value: v.value,
+    }
+}
+
+// A declared name by itself, as an input's is.
+fn bare(h: Here) -> Item
+    ensures { result ≡ record { kind = 0; place = h.place; next = h.next; number = 0; width = 0; value = 0 } }
+{
+    Item {
+        kind: 0,
+        place: h.place,
+        next: h.next,
+        number: 0,
+        width: 0,
+        value: 0,
     }
 }
 
@@ -63,17 +74,15 @@ fn integer(s: &[u8], h: Here) -> Named
     let n = word_from(s, o.next);
     let c = word_from(s, n.next);
     let g = integer_start(s, word_from(s, c.next));
-    let w = g.word;
     Named {
         item: Item {
             kind: 3,
-            place: h.place,
-            next: h.next,
             number: n.place,
             width: n.value,
             value: g.value,
+            ..bare(h)
         },
-        word: w,
+        word: g.word,
     }
 }
 
@@ -88,52 +97,35 @@ fn named(s: &[u8], list: u8, h: Here) -> Named
     let e = ending(s, word_from(s, h.next));
     if list == 1 {
         return Named {
-            item: Item {
-                kind: 0,
-                place: h.place,
-                next: h.next,
-                number: 0,
-                width: 0,
-                value: 0,
-            },
+            item: bare(h),
             word: e,
         };
     }
     let g = boolean_start(s, e);
-    let w = g.word;
     Named {
         item: Item {
             kind: list - 1,
-            place: h.place,
-            next: h.next,
-            number: 0,
             width: 1,
             value: g.value,
+            ..bare(h)
         },
-        word: w,
+        word: g.word,
     }
 }
 
 // The list that a declaration's first word opens: 5 for a procedure, 0 where it opens none.
+#[tactic(auto, unfolding(crate::specs::Left::list_of))]
 fn list_of(kind: u8) -> u8
     ensures { result ≡ list_of kind }
 {
-    if kind == 28 {
-        return 1;
+    match kind {
+        kinds::INPUT => 1,
+        kinds::OUTPUT => 2,
+        kinds::INTERNAL => 3,
+        kinds::INTEGER => 4,
+        kinds::PROCEDURE => 5,
+        _ => 0,
     }
-    if kind == 29 {
-        return 2;
-    }
-    if kind == 30 {
-        return 3;
-    }
-    if kind == 31 {
-        return 4;
-    }
-    if kind == 56 {
-        return 5;
-    }
-    0
 }
 
 // At the first name of the declaration that this word begins, or behind the declarations.
@@ -141,13 +133,10 @@ fn opened(s: &[u8], h: Here) -> At
     requires { Near s.now h }
     ensures { Opened s.now h result }
 {
-    let l = list_of(h.kind);
-    if l == 0 {
-        return At { list: 0, word: h };
-    }
+    let list = list_of(h.kind);
     At {
-        list: l,
-        word: word_from(s, h.next),
+        list,
+        word: if list == 0 { h } else { word_from(s, h.next) },
     }
 }
 
@@ -158,20 +147,15 @@ fn variable(s: &[u8], at: At) -> Turn
 {
     let h = at.word;
     let n = named(s, at.list, h);
-    let w = n.word;
-    let i = n.item;
-    let v = word_from(s, w.next);
-    if w.kind == 13 {
-        return Turn {
-            item: i,
-            at: At {
-                list: at.list,
-                word: v,
-            },
-        };
+    let v = word_from(s, n.word.next);
+    Turn {
+        item: n.item,
+        at: if n.word.kind == kinds::COMMA {
+            At { word: v, ..at }
+        } else {
+            opened(s, v)
+        },
     }
-    let a = opened(s, v);
-    Turn { item: i, at: a }
 }
 
 // The first `endproc` from a word on: no procedure stands in another.
@@ -181,10 +165,7 @@ fn reached(s: &[u8], first: Here) -> Here
 {
     let mut h = first;
     loop {
-        if h.kind == 57 {
-            return h;
-        }
-        if h.kind > 62 {
+        if h.kind == kinds::ENDPROC || h.kind > kinds::ENDCOMPRESS {
             return h;
         }
         h = word_from(s, h.next);
@@ -196,10 +177,11 @@ fn after(s: &[u8], h: Here) -> Here
     requires { Near s.now h }
     ensures { After s.now h result }
 {
-    if h.kind == 12 {
-        return word_from(s, h.next);
+    if h.kind == kinds::SEMICOLON {
+        word_from(s, h.next)
+    } else {
+        h
     }
-    h
 }
 
 // A procedure's name, its body passed over, and where the next name is.
@@ -210,17 +192,9 @@ fn procedure(s: &[u8], at: At) -> Turn
     let h = at.word;
     let e = reached(s, word_from(s, h.next));
     let v = after(s, word_from(s, e.next));
-    let a = opened(s, v);
     Turn {
-        item: Item {
-            kind: 4,
-            place: h.place,
-            next: h.next,
-            number: 0,
-            width: 0,
-            value: 0,
-        },
-        at: a,
+        item: Item { kind: 4, ..bare(h) },
+        at: opened(s, v),
     }
 }
 
@@ -230,9 +204,10 @@ pub fn step(s: &[u8], at: At) -> Turn
     ensures { StepCame s.now at result }
 {
     if at.list == 5 {
-        return procedure(s, at);
+        procedure(s, at)
+    } else {
+        variable(s, at)
     }
-    variable(s, at)
 }
 
 // The first declared name of a program.

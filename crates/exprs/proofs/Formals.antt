@@ -1,9 +1,9 @@
 -- A name in an expression, under open calls: a formal is read from the text of its actual, as its caller has it.
 -- Assumes nothing.
-use mathlib.Core.Path.{◌≡◌, refl, sym, ◌∙◌, ap, subst}
+use mathlib.Core.Path.{◌≡◌, refl, sym, ◌∙◌, subst}
 use mathlib.Core.List.{List}
 use mathlib.Core.Option.{Option, none, some}
-use Prim.Native.Nat.{ℕ, zero, suc, ◌+◌, ◌-◌, ◌≤◌, ◌<◌}
+use Prim.Native.Nat.{ℕ, zero, suc, ◌+◌, ◌-◌, ◌<◌}
 use native.Mathlib.Omega.{arith}
 use lib.ListN.{length, drop}
 use Rattle.meaning.specs.Unexpanded.{Term}
@@ -23,8 +23,7 @@ use Rattle.frames_law.proofs.Frames.{formal-stands, no_formal_in}
 use Rattle.frames.specs.declared.Under.{Under}
 use Rattle.frames.specs.Layout.{frames_of}
 use Rattle.frames.specs.Open.{BindsUnder}
-use Rattle.frames.specs.Meant.{placed, formal_under, caller_of}
-use Rattle.frames.proofs.Listed.{placed-some}
+use Rattle.frames.specs.Meant.{formal_under, caller_of}
 use Rattle.names.specs.Look.{look_in}
 use Rattle.parts.specs.declared.Notes.{Notes}
 use Rattle.parts.specs.declared.Got.{Got}
@@ -62,19 +61,19 @@ module _ (s : List ℕ) (l : Frames) (at frame : ℕ) (bound : List (Bound Term)
 
 -- ---- by what is found
 
-module _ (s z : List ℕ) (under : Under) (x : List ℕ) (q : ℕ) (found_at : placed q ≡ formal_under s z under x) where
-  pub own_name : q ≡ 65535 → (bound : List (Bound Term)) → BindsUnder s z under bound → actual_of bound x ≡ none
-  own_name e bound f = no_formal_in s (frames_of s z) under.at under.frame bound under.depth x f (sym found_at ∙ ap placed e)
+module _ (s z : List ℕ) (under : Under) (x : List ℕ) where
+  pub own_name : none ≡ formal_under s z under x → (bound : List (Bound Term)) → BindsUnder s z under bound → actual_of bound x ≡ none
+  own_name e bound f = no_formal_in s (frames_of s z) under.at under.frame bound under.depth x f (sym e)
 
-  actual : ¬ (q ≡ 65535) → q ≤ 65535 → (bound : List (Bound Term)) → BindsUnder s z under bound
+  actual : (q : ℕ) → some q ≡ formal_under s z under x → (bound : List (Bound Term)) → BindsUnder s z under bound
       → (outer : List (Bound Term)) × (e : Term) × BindsUnder s z (caller_of z under) outer × TermAt s q e × (actual_of bound x ≡ some (replaced (told_at under.at) outer e))
   unfolding frames_of
-  actual h g bound f = a_formal s (frames_of s z) under.at under.frame bound x q under.depth f (sym found_at ∙ placed-some q (omega arith))
+  actual q e bound f = a_formal s (frames_of s z) under.at under.frame bound x q under.depth f (sym e)
 
 -- ---- a formal that is read
 
 module _ {s : List ℕ} (z : List ℕ) (count : ℕ) (under : Under) {h a : Here} {m : Notes} {t : List ℕ} {r : Got} {q : ℕ} (near : Near s h) (b : Begins s h.next a) (not-index : ¬ (a.kind ≡ 16))
-    (found_at : placed q ≡ formal_under s z under (part s h.place h.next)) (some-place : ¬ (q ≡ 65535)) (low : q ≤ 65535) (w : r.word ≡ a) where
+    (found_at : some q ≡ formal_under s z under (part s h.place h.next)) (w : r.word ≡ a) where
   pub formal-read : {around : Under} {k : ℕ} {h₁ : Here} {g : Got} {u : List ℕ} → Begins s q h₁ → around ≡ caller_of z under → CameUnder s z count around 0 k h₁ m t u g → k ≡ most_levels → ((x : List ℕ) → sum_of r x ≡ sum_of g x) → PlainUnder s z count under 0 h m t u r
   formal-read {around} {k} {h₁} {g} {u} b₁ e came whole same = plain_formal near b is not-index w came.kept
     where
@@ -83,7 +82,7 @@ module _ {s : List ℕ} (z : List ℕ) (count : ℕ) (under : Under) {h a : Here
 
       is : (bound : List (Bound Term)) → BindsUnder s z under bound → (x : Term) × (actual_of bound (part s h.place h.next) ≡ some x) × (sum_of r u ≡ sum (look_in s z count) (base_term x) m t)
       is bound f =
-          let (outer, x, up, (n, ws, rest, along, told), stands) = actual s z under (part s h.place h.next) q found_at some-place low bound f in
+          let (outer, x, up, (n, ws, rest, along, told), stands) = actual s z under (part s h.place h.next) q found_at bound f in
           (replaced (told_at under.at) outer x, stands, same u ∙ (went.told ws (b₁.stands ws along) n x rest told).sums outer up)
 
   -- no actual begins past the end of the text
@@ -92,5 +91,5 @@ module _ {s : List ℕ} (z : List ℕ) (count : ℕ) (under : Under) {h a : Here
     where
       is : (bound : List (Bound Term)) → BindsUnder s z under bound → (x : Term) × (actual_of bound (part s h.place h.next) ≡ some x) × (sum_of r t ≡ sum (look_in s z count) (base_term x) m t)
       is bound f =
-          let (outer, x, up, at_q, stands) = actual s z under (part s h.place h.next) q found_at some-place low bound f in
+          let (outer, x, up, at_q, stands) = actual s z under (part s h.place h.next) q found_at bound f in
           absurd (inside s q x at_q past)

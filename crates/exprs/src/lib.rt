@@ -134,11 +134,10 @@ fn name(s: &[u8], count: u16, t: &mut [u8], u: Under, first: Here, notes: Notes)
     if after.kind == 16 {
         return single::bit(s, count, t, u, first, after, notes);
     }
-    let q = find::formal(s, t, u, first.place, first.next);
-    if q == 65535 {
+    let Some(q) = find::formal(s, t, u, first.place, first.next) else {
         let v = parts::seen::find(s, t, count, first.place, first.next);
         return leaves::named(t, notes, frames::told(u, first.place), v, after);
-    }
+    };
     if q as usize > s.len() {
         return leaves::nothing(after, notes);
     }

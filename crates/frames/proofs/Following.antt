@@ -3,7 +3,7 @@
 use mathlib.Core.Path.{◌≡◌, refl, sym, ◌∙◌, ap}
 use mathlib.Core.List.{List}
 use mathlib.Core.Option.{Option, none, some}
-use Prim.Native.Nat.{ℕ, zero, suc, ◌-◌, ◌≤◌, ◌<◌}
+use Prim.Native.Nat.{ℕ, zero, suc, ◌-◌, ◌<◌}
 use native.Mathlib.Omega.{arith}
 use Rattle.meaning.specs.Tree.{Name}
 use Rattle.meaning.specs.Unexpanded.{Term, literal, truth, variable, bit, not, int, arithmetic, comparison, logic, parens, instead, no_name}
@@ -15,8 +15,7 @@ use Rattle.frames.specs.declared.Under.{Under}
 use Rattle.frames.specs.declared.Meant.{Meant}
 use Rattle.frames.specs.declared.Meant.TheVariants as meant
 use Rattle.frames.specs.Layout.{frames_of}
-use Rattle.frames.specs.Meant.{placed, formal_under, caller_of, span_name, form_for, form_in, MeantBy, SingleBy, bit_of}
-use Rattle.frames.proofs.Listed.{placed-some}
+use Rattle.frames.specs.Meant.{formal_under, caller_of, span_name, form_for, form_in, MeantBy, SingleBy, bit_of}
 use Rattle.frames.proofs.Formal.{none-some}
 
 -- ---- the form of a replaced term, by its own form
@@ -70,17 +69,13 @@ bit_in s to (meant.Name a b) j = refl
 bit_in s to (meant.Bit a b i) j = refl
 bit_in s to meant.Neither j = refl
 
-module _ (s z : List ℕ) (u : Under) (a b q : ℕ) (e : placed q ≡ formal_under s z u (part s a b)) where
-  pub meant_none : q ≡ 65535 → MeantBy s z u a b (meant.Name a b)
-  meant_none h bound f =
-      let n : formal_under s z u (part s a b) ≡ none = sym e ∙ ap placed h in
-      ap (form_for (told_at u.at) (span_name s a b)) (sym (no_formal_in s (frames_of s z) u.at u.frame bound u.depth (part s a b) f n))
+pub meant_none : (s z : List ℕ) (u : Under) (a b : ℕ) → none ≡ formal_under s z u (part s a b) → MeantBy s z u a b (meant.Name a b)
+meant_none s z u a b e bound f =
+    ap (form_for (told_at u.at) (span_name s a b)) (sym (no_formal_in s (frames_of s z) u.at u.frame bound u.depth (part s a b) f (sym e)))
 
-  found : ¬ (q ≡ 65535) → q ≤ 65535 → formal_under s z u (part s a b) ≡ some q
-  found h g = sym e ∙ placed-some q (omega arith)
-
-  pub meant_deep : ¬ (q ≡ 65535) → q ≤ 65535 → 0 < u.depth
-  meant_deep h g = go u.depth (found h g)
+module _ (s z : List ℕ) (u : Under) (a b : ℕ) {q : ℕ} (e : some q ≡ formal_under s z u (part s a b)) where
+  pub meant_deep : 0 < u.depth
+  meant_deep = go u.depth (sym e)
     where
       go : (d : ℕ) → formal_in s (frames_of s z) d u.frame (part s a b) ≡ some q → 0 < d
       go zero p = none-some p
@@ -90,9 +85,9 @@ module _ (s z : List ℕ) (u : Under) (a b q : ℕ) (e : placed q ≡ formal_und
   abbrev Stands : List (Bound Term) → Type 0
   Stands bound = (outer : List (Bound Term)) × (t : Term) × Framed s (frames_of s z) (caller_of z u).at (caller_of z u).depth (caller_of z u).frame outer × TermAt s q t × (form_for (told_at u.at) (span_name s a b) (actual_of bound (part s a b)) ≡ under_form (told_at u.at) outer (form_of t))
 
-  stands : ¬ (q ≡ 65535) → q ≤ 65535 → (bound : List (Bound Term)) → Framed s (frames_of s z) u.at u.depth u.frame bound → Stands bound
+  stands : (bound : List (Bound Term)) → Framed s (frames_of s z) u.at u.depth u.frame bound → Stands bound
   unfolding frames_of
-  stands h g bound f = go u.depth f (found h g)
+  stands bound f = go u.depth f (sym e)
     where
       last : (d : ℕ) (outer : List (Bound Term)) (o : Option ℕ) → o ≡ some q → Framed s (frames_of s z) u.at d ((frames_of s z).caller u.frame) outer → Stood s u.at outer o (actual_of bound (part s a b))
           → (outer : List (Bound Term)) × (t : Term) × Framed s (frames_of s z) u.at d ((frames_of s z).caller u.frame) outer × TermAt s q t × (form_for (told_at u.at) (span_name s a b) (actual_of bound (part s a b)) ≡ under_form (told_at u.at) outer (form_of t))
@@ -108,22 +103,22 @@ module _ (s z : List ℕ) (u : Under) (a b q : ℕ) (e : placed q ≡ formal_und
           let k : suc d - 1 ≡ d = omega arith in
           rw k (last d outer (formal_in s (frames_of s z) (suc d) u.frame (part s a b)) p up x)
 
-  module _ (h : ¬ (q ≡ 65535)) (g : q ≤ 65535) {r : Meant} (x : SingleBy s q r) where
+  module _ {r : Meant} (x : SingleBy s q r) where
     pub meant_name : (c d : ℕ) (m : Meant) → r ≡ meant.Name c d → MeantBy s z (caller_of z u) c d m → MeantBy s z u a b m
     meant_name c d m i y bound f =
-        let (outer, t, up, at, is) = stands h g bound f in
+        let (outer, t, up, at, is) = stands bound f in
         let k : form_of t ≡ one_name (span_name s c d) = sym (x t at) ∙ ap (form_in s (λ p. p)) i in
         y outer up ∙ sym (is ∙ ap (under_form (told_at u.at) outer) k)
 
     pub meant_bit : (c d j : ℕ) (m : Meant) → r ≡ meant.Bit c d j → MeantBy s z (caller_of z u) c d m → MeantBy s z u a b (bit_of m j)
     meant_bit c d j m i y bound f =
-        let (outer, t, up, at, is) = stands h g bound f in
+        let (outer, t, up, at, is) = stands bound f in
         let k : form_of t ≡ one_bit (span_name s c d) j = sym (x t at) ∙ ap (form_in s (λ p. p)) i in
         bit_in s (told_at u.at) m j ∙ ap (bit_of_name j) (y outer up) ∙ sym (is ∙ ap (under_form (told_at u.at) outer) k)
 
     pub meant_neither : r ≡ meant.Neither → MeantBy s z u a b meant.Neither
     meant_neither i bound f =
-        let (outer, t, up, at, is) = stands h g bound f in
+        let (outer, t, up, at, is) = stands bound f in
         let k : form_of t ≡ neither = sym (x t at) ∙ ap (form_in s (λ p. p)) i in
         sym (is ∙ ap (under_form (told_at u.at) outer) k)
 

@@ -1,18 +1,18 @@
 -- What a frame says of a formal: where its actual's text begins, and that one's sizes.
 -- Assumes nothing.
+use Rattle.std.specs.Prelude as std
 use mathlib.Core.Bool.{Bool, true, false, cond}
 use mathlib.Core.Path.{◌≡◌, refl, sym, ◌∙◌, ap}
 use mathlib.Core.List.{List, [], ◌∷◌, map}
 use mathlib.Core.Option.{Option, none, some}
-use Prim.Native.Nat.{ℕ, zero, suc, ◌+◌, ◌*◌, ◌<◌, ◌≤◌}
+use Prim.Native.Nat.{ℕ, zero, suc, ◌+◌, ◌*◌}
 use native.Mathlib.Omega.{arith}
-use lib.Dec.{ltb}
 use lib.ListN.{length}
 use Rattle.meaning.specs.Tree.{Name}
 use Rattle.meaning.specs.Declared.{same_bytes}
 use Rattle.meaning.specs.Unexpanded.{Term}
 use Rattle.meaning.specs.Expansion.{Bound, actual_of, bind, replaced}
-use Rattle.frames_law.specs.Frames.{no_place, bytes_at, actual_at, formal_in, told_at, NamedAt, Each, Framed}
+use Rattle.frames_law.specs.Frames.{bytes_at, actual_at, formal_in, told_at, NamedAt, Each, Framed}
 use Rattle.frames_law.proofs.Frames.{named-bytes}
 use Rattle.frames.specs.declared.Under.{Under}
 use Rattle.frames.specs.declared.Sizes.{Sizes}
@@ -20,7 +20,6 @@ use Rattle.frames.specs.Layout.{half_at, place_at, parts_at, levels_at, each_fro
 use Rattle.frames.specs.List.{index_from, index_in}
 use Rattle.frames.specs.Open.{parts_of, levels_of, Measured, Sized}
 use Rattle.frames.specs.Meant.{placed, SizesOf}
-use Rattle.frames.proofs.Listed.{placed-some}
 
 pub none-some : {A B : Type 0} {x : A} → none ≡ some x → B
 none-some e = let z : ◌≡◌ {A = ℕ} 0 1 = cc in absurd (omega arith)
@@ -50,23 +49,19 @@ module _ (s z : List ℕ) (read : List ℕ → ℕ → ℕ) (o : ℕ) (x : List 
 
 -- ---- where the actual's text begins
 
-module _ (s z : List ℕ) (frame : ℕ) (x : List ℕ) (i : ℕ) (e : placed i ≡ index_in s (formals_at s (half_at z (frame + 2))) x) where
-  abbrev Says : ℕ → Option ℕ → Type 0
-  Says d o = o ≡ formal_in s (frames_of s z) d frame x
-
-  at_number : (d : ℕ) → ¬ (d ≡ 0) → Says d (at_index (λ j. place_at z (frame + 4 + j * 4)) (placed i))
+module _ (s z : List ℕ) (frame : ℕ) (x : List ℕ) {o : Option ℕ} (e : o ≡ index_in s (formals_at s (half_at z (frame + 2))) x) where
+  at_number : (d : ℕ) → ¬ (d ≡ 0) → at_index (λ j. place_at z (frame + 4 + j * 4)) o ≡ formal_in s (frames_of s z) d frame x
   unfolding frames_of
   at_number zero h = absurd (h refl)
   at_number (suc d) h = ap (at_index (λ j. place_at z (frame + 4 + j * 4))) e ∙ sym (by_first s z place_at (frame + 4) x (formals_at s (half_at z (frame + 2))))
 
-  pub formal-none : (d : ℕ) → ¬ (d ≡ 0) → i ≡ 65535 → none ≡ formal_in s (frames_of s z) d frame x
+  pub formal-none : (d : ℕ) → ¬ (d ≡ 0) → o ≡ none → none ≡ formal_in s (frames_of s z) d frame x
   unfolding at_index
-  formal-none d h q = ap (λ (j : ℕ). at_index (λ j. place_at z (frame + 4 + j * 4)) (placed j)) (sym q) ∙ at_number d h
+  formal-none d h q = ap (at_index (λ j. place_at z (frame + 4 + j * 4))) (sym q) ∙ at_number d h
 
-  pub formal-some : (d r : ℕ) → ¬ (d ≡ 0) → ¬ (i ≡ 65535) → i ≤ 65535 → r ≡ place_at z (frame + 4 + i * 4) → r < 8192 → placed r ≡ formal_in s (frames_of s z) d frame x
+  pub formal-some : (d i r : ℕ) → ¬ (d ≡ 0) → o ≡ some i → r ≡ place_at z (frame + 4 + i * 4) → some r ≡ formal_in s (frames_of s z) d frame x
   unfolding at_index
-  formal-some d r h q f a b =
-      placed-some r (omega arith) ∙ ap some a ∙ ap (at_index (λ j. place_at z (frame + 4 + j * 4))) (sym (placed-some i (omega arith))) ∙ at_number d h
+  formal-some d i r h q a = ap some a ∙ ap (at_index (λ j. place_at z (frame + 4 + j * 4))) (sym q) ∙ at_number d h
 
 -- ---- its sizes
 
@@ -84,24 +79,24 @@ module _ (s : List ℕ) (f : Term → ℕ) (x : List ℕ) where
       go true more q = ap some (m₀ ∙ ap f (let z : t ≡ e = cc in z))
       go false more q = more q
 
-  in_frame : (z : List ℕ) (read : List ℕ → ℕ → ℕ) (o i : ℕ) (ps : List ℕ) (ns : List Name) (ts : List Term) → Each (NamedAt s) ps ns → Measured f (each_from read z o (length ps)) (bind ns ts) → placed i ≡ index_in s ps x
+  in_frame : (z : List ℕ) (read : List ℕ → ℕ → ℕ) (o i : ℕ) (ps : List ℕ) (ns : List Name) (ts : List Term) → Each (NamedAt s) ps ns → Measured f (each_from read z o (length ps)) (bind ns ts) → (k : std.Option ℕ) → placed k ≡ index_in s ps x → i ≡ std.unwrap_or k 0
       → (e : Term) → actual_of (bind ns ts) x ≡ some e → read z (o + i * 4) ≡ f e
   unfolding at_index
-  in_frame z read o i ps ns ts a m q e p = go (ltb i no_place) (ap (at_index (λ j. read z (o + j * 4))) q ∙ sym (by_first s z read o x ps) ∙ measured_at ps ns ts (each_from read z o (length ps)) a m e p)
+  in_frame z read o i ps ns ts a m k q at e p = go k at (ap (at_index (λ j. read z (o + j * 4))) q ∙ sym (by_first s z read o x ps) ∙ measured_at ps ns ts (each_from read z o (length ps)) a m e p)
     where
-      go : (b : Bool) → at_index (λ j. read z (o + j * 4)) (cond b (some i) none) ≡ some (f e) → read z (o + i * 4) ≡ f e
-      go true r = cc
-      go false r = none-some r
+      go : (k : std.Option ℕ) → i ≡ std.unwrap_or k 0 → at_index (λ j. read z (o + j * 4)) (placed k) ≡ some (f e) → read z (o + i * 4) ≡ f e
+      go (std.Some j) at r = cc
+      go std.None at r = none-some r
 
-pub sizes_of_lem : (s z : List ℕ) (u : Under) (x : List ℕ) (i : ℕ) (r : Sizes) → placed i ≡ index_in s (formals_at s (half_at z (u.frame + 2))) x
+pub sizes_of_lem : (s z : List ℕ) (u : Under) (x : List ℕ) (k : std.Option ℕ) (i : ℕ) (r : Sizes) → placed k ≡ index_in s (formals_at s (half_at z (u.frame + 2))) x → i ≡ std.unwrap_or k 0
     → r.parts ≡ parts_at z (u.frame + 4 + i * 4) → r.levels ≡ levels_at z (u.frame + 4 + i * 4) → SizesOf s z u x r
 unfolding Framed Sized frames_of actual_of
-sizes_of_lem s z u x i r e a b = go u.depth
+sizes_of_lem s z u x o i r e at a b = go u.depth
   where
     go : (d : ℕ) (bound : List (Bound Term)) → Framed s (frames_of s z) u.at d u.frame bound → Sized s z d u.frame bound → (t : Term) → actual_of bound x ≡ some t → (r.parts ≡ parts_of t) × (r.levels ≡ levels_of t)
     go zero bound (f₀, f₁) y t p = none-some (sym (ap (λ (l : List (Bound Term)). actual_of l x) f₁) ∙ p)
     go (suc d) bound (ns, ts, outer, f, g, up, q) (y₀, y₁) t p =
         let k : actual_of (bind ns (map (replaced (told_at u.at) outer) ts)) x ≡ some t = sym (ap (λ (l : List (Bound Term)). actual_of l x) q) ∙ p in (
-          a ∙ in_frame s parts_of x z parts_at (u.frame + 4) i (formals_at s (half_at z (u.frame + 2))) ns (map (replaced (told_at u.at) outer) ts) f (rw q at y₀) e t k,
-          b ∙ in_frame s levels_of x z levels_at (u.frame + 4) i (formals_at s (half_at z (u.frame + 2))) ns (map (replaced (told_at u.at) outer) ts) f (rw q at y₁) e t k,
+          a ∙ in_frame s parts_of x z parts_at (u.frame + 4) i (formals_at s (half_at z (u.frame + 2))) ns (map (replaced (told_at u.at) outer) ts) f (rw q at y₀) o e at t k,
+          b ∙ in_frame s levels_of x z levels_at (u.frame + 4) i (formals_at s (half_at z (u.frame + 2))) ns (map (replaced (told_at u.at) outer) ts) f (rw q at y₁) o e at t k,
         )

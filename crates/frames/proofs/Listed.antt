@@ -8,7 +8,7 @@ use Prim.Native.Nat.{ℕ, zero, suc, ◌+◌, ◌-◌, ◌≤◌, ◌<◌}
 use native.Mathlib.Omega.{arith}
 use lib.Dec.{eqb}
 use lib.ListN.{length}
-use borrow.Author.Tests.{lt-ltb, ne_eqb}
+use borrow.Author.Tests.{ne_eqb}
 use Rattle.meaning.specs.Declared.{same_bytes}
 use Rattle.language.specs.Words.{bytes, same, signs, reserved}
 use Rattle.language.specs.Scan as Scan
@@ -22,11 +22,10 @@ use Rattle.words.specs.declared.Next.TheVariants.{Found, Stops, Over}
 use Rattle.words.proofs.Walk.{sound, behind_is}
 use Rattle.names.proofs.Same.{same_bytes_lem}
 use Rattle.hand.proofs.Chosen.{up_to, up_to_lem}
-use Rattle.frames_law.specs.Frames.{no_place, bytes_of}
+use Rattle.frames_law.specs.Frames.{bytes_of}
 use Rattle.frames.specs.Layout.{is_name, is_comma, name_next, comma_next, past_next, past_word, formals_from, most_formals, formals_at, close_from, body_from}
 use Rattle.frames.specs.declared.list.Listed.{Listed}
 use Rattle.frames.specs.List.{Lists, index_from, index_in}
-use Rattle.frames.specs.Meant.{placed}
 
 -- ---- a word of the list
 
@@ -129,9 +128,6 @@ module _ (s x : List ℕ) (m from i : ℕ) (o : Option ℕ) where
 pub list-start : (s x : List ℕ) (p from : ℕ) → from ≡ past_word s (past_word s p) → index_from s (formals_from 8192 s from) x 0 ≡ index_in s (formals_at s p) x
 unfolding formals_at
 list-start s x p from e = rw e refl
-
-pub placed-some : (p : ℕ) → p < no_place → placed p ≡ some p
-placed-some p h = rw (lt-ltb p no_place h) refl
 
 -- ---- the same by what the code has
 

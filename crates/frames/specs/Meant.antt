@@ -1,12 +1,13 @@
 -- What a formal stands for by its frame: the place of its actual's text, that one's sizes, and the name or the bit that it is.
 -- Assumes nothing.
-use Rattle.std.specs.Prelude.{cond, ◌≡◌, List, ℕ, ◌-◌, ltb}
+use Rattle.std.specs.Prelude as std
+use Rattle.std.specs.Prelude.{◌≡◌, List, ℕ, ◌-◌, Some, None}
 use Rattle.std.proofs.Math.Option.{Option, none, some}
 use Rattle.meaning.specs.Tree.{Name}
 use Rattle.meaning.specs.Unexpanded.{Term}
 use Rattle.meaning.specs.Expansion.{Bound, actual_of, Form, one_name, one_bit, neither, form_of, moved}
 use Rattle.words.specs.Runs.{part}
-use Rattle.frames_law.specs.Frames.{no_place, told_at, TermAt, formal_in}
+use Rattle.frames_law.specs.Frames.{told_at, TermAt, formal_in}
 use Rattle.frames.specs.declared.Under.{Under}
 use Rattle.frames.specs.declared.Sizes.{Sizes}
 use Rattle.frames.specs.declared.Meant.{Meant}
@@ -14,9 +15,10 @@ use Rattle.frames.specs.declared.Meant.TheVariants as meant
 use Rattle.frames.specs.Layout.{half_at, frames_of}
 use Rattle.frames.specs.Open.{parts_of, levels_of, Sized, BindsUnder}
 
--- 65,535 stands for none
-abbrev pub placed : ℕ → Option ℕ
-placed p = cond (ltb p no_place) (some p) none
+-- what the code found, as the definitions have it
+abbrev pub placed : std.Option ℕ → Option ℕ
+placed (Some p) = some p
+placed None = none
 
 -- where the text begins of the actual that these bytes stand for under u
 abbrev pub formal_under : List ℕ → List ℕ → Under → List ℕ → Option ℕ

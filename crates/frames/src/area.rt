@@ -6,10 +6,7 @@ ghost use Rattle.frames.specs.Layout.{half_at, row_at, procedure_at, wide_at, pl
 fn byte(t: &[u8], i: usize) -> u8
     ensures { result ≡ get_or t.now i 0 }
 {
-    if i < t.len() {
-        return t[i];
-    }
-    0
+    t.get(i).copied().unwrap_or(0)
 }
 
 // Byte o behind the tree.
@@ -19,18 +16,13 @@ pub fn byte_at(t: &[u8], o: u32) -> u8
     byte(t, 16384 + o as usize)
 }
 
-fn wide(x: u8) -> u16
-    ensures { (result ≡ x) × (result ≤ 255) }
-{
-    x as u16
-}
-
 // Two bytes, the low one first.
+#[tactic(auto, unfolding(crate::specs::Layout::half_at))]
 pub fn half_at(t: &[u8], o: u32) -> u16
     requires { o < 1000000 }
     ensures { result ≡ half_at (beside t.now).names o }
 {
-    wide(byte_at(t, o)) + wide(byte_at(t, o + 1)) * 256
+    u16::from_le_bytes([byte_at(t, o), byte_at(t, o + 1)])
 }
 
 // Where the text of an actual begins.
@@ -38,7 +30,7 @@ pub fn place_at(t: &[u8], o: u32) -> u16
     requires { o < 1000000 }
     ensures { (result ≡ place_at (beside t.now).names o) × (result < 8192) }
 {
-    wide(byte_at(t, o)) + wide(byte_at(t, o + 1)) % 32 * 256
+    u16::from_le_bytes([byte_at(t, o), byte_at(t, o + 1)]) % 8192
 }
 
 // Its parts.
@@ -46,10 +38,11 @@ pub fn parts_at(t: &[u8], o: u32) -> u16
     requires { o < 1000000 }
     ensures { result ≡ parts_at (beside t.now).names o }
 {
-    wide(byte_at(t, o + 1)) / 32 + wide(byte_at(t, o + 2)) * 8
+    u16::from_le_bytes([byte_at(t, o + 1), byte_at(t, o + 2)]) / 32
 }
 
 // Its levels.
+#[tactic(auto, unfolding(crate::specs::Layout::levels_at))]
 pub fn levels_at(t: &[u8], o: u32) -> u8
     requires { o < 1000000 }
     ensures { result ≡ levels_at (beside t.now).names o }
@@ -61,14 +54,11 @@ pub fn levels_at(t: &[u8], o: u32) -> u8
 fn row_at(i: u16) -> u32
     ensures { (result ≡ row_at i) × (result ≤ 16380) }
 {
-    let k = i as u32 * 4;
-    if k > 16380 {
-        return 0;
-    }
-    16380 - k
+    16380u32.saturating_sub(u32::from(i) * 4)
 }
 
 // The place of its name.
+#[tactic(auto, unfolding(crate::specs::Layout::procedure_at))]
 pub fn procedure_at(t: &[u8], i: u16) -> u16
     ensures { result ≡ procedure_at (beside t.now).names i }
 {
@@ -76,6 +66,7 @@ pub fn procedure_at(t: &[u8], i: u16) -> u16
 }
 
 // The activities that it can have.
+#[tactic(auto, unfolding(crate::specs::Layout::wide_at))]
 pub fn wide_at(t: &[u8], i: u16) -> u8
     ensures { result ≡ wide_at (beside t.now).names i }
 {

@@ -9,47 +9,35 @@ ghost use Rattle.frames.specs.Meant.{placed, formal_under, caller_of, SizesOf};
 
 use crate::{Sizes, Under, area, list};
 
-// Which formal of the frame's procedure has the name from a to b; 65,535 if none has.
-fn index(s: &[u8], t: &[u8], frame: u16, a: u16, b: u16) -> u16
+// Which formal of the frame's procedure has the name from a to b.
+fn index(s: &[u8], t: &[u8], frame: u16, a: u16, b: u16) -> Option<u16>
     ensures { placed result ≡ index_in s.now (formals_at s.now (half_at (beside t.now).names (frame + 2))) (part s.now a b) }
 {
-    let f = frame as u32;
-    list::index(s, area::half_at(t, f + 2) as usize, a, b)
+    let p = area::half_at(t, u32::from(frame) + 2);
+    list::index(s, usize::from(p), a, b)
 }
 
-// Where the text of the actual begins for the formal from a to b; 65,535 if it is none.
-pub fn formal(s: &[u8], t: &[u8], u: Under, a: u16, b: u16) -> u16
+// Where the text of the actual begins for the formal from a to b, if it is one.
+pub fn formal(s: &[u8], t: &[u8], u: Under, a: u16, b: u16) -> Option<u16>
     ensures { placed result ≡ formal_under s.now (beside t.now).names u (part s.now a b) }
 {
     if u.depth == 0 {
-        return 65535;
+        return None;
     }
-    let i = index(s, t, u.frame, a, b);
-    if i == 65535 {
-        return 65535;
-    }
-    area::place_at(t, u.frame as u32 + 4 + i as u32 * 4)
+    let i = index(s, t, u.frame, a, b)?;
+    Some(area::place_at(t, u32::from(u.frame) + 4 + u32::from(i) * 4))
 }
 
-// The sizes of that actual.
+// The sizes of that actual; they are asked of a formal alone.
 pub fn sizes(s: &[u8], t: &[u8], u: Under, a: u16, b: u16) -> Sizes
     ensures { SizesOf s.now (beside t.now).names u (part s.now a b) result }
 {
-    let i = index(s, t, u.frame, a, b);
-    let o = u.frame as u32 + 4 + i as u32 * 4;
+    let i = index(s, t, u.frame, a, b).unwrap_or(0);
+    let o = u32::from(u.frame) + 4 + u32::from(i) * 4;
     Sizes {
         parts: area::parts_at(t, o),
         levels: area::levels_at(t, o),
     }
-}
-
-fn less(n: u16) -> u16
-    ensures { result ≡ n - 1 }
-{
-    if n == 0 {
-        return 0;
-    }
-    n - 1
 }
 
 // Under what the text around the call is read.
@@ -57,24 +45,20 @@ pub fn caller(t: &[u8], u: Under) -> Under
     ensures { result ≡ caller_of (beside t.now).names u }
 {
     Under {
-        at: u.at,
-        frame: area::half_at(t, u.frame as u32),
-        depth: less(u.depth),
-        seen: u.seen,
-        top: u.top,
+        frame: area::half_at(t, u32::from(u.frame)),
+        depth: u.depth.saturating_sub(1),
+        ..u
     }
 }
 
-// The row of the procedure that the name from a to b calls, among the first `seen`; 65,535 if there is none.
-pub fn procedure(s: &[u8], t: &[u8], seen: u16, a: u16, b: u16) -> u16
+// The row of the procedure that the name from a to b calls, among the first `seen`.
+pub fn procedure(s: &[u8], t: &[u8], seen: u16, a: u16, b: u16) -> Option<u16>
     ensures { placed result ≡ row_in s.now (beside t.now).names seen (part s.now a b) }
 {
-    let mut n = seen;
-    while n > 0 {
-        n -= 1;
-        if list::same_at(s, area::procedure_at(t, n) as usize, a, b) {
-            return n;
+    for n in (0..seen).rev() {
+        if list::same_at(s, usize::from(area::procedure_at(t, n)), a, b) {
+            return Some(n);
         }
     }
-    65535
+    None
 }

@@ -5,24 +5,17 @@ ghost use Rattle.frames.specs.Meant.{MeantBy, SingleBy, bit_of};
 ghost use Rattle.frames_law.specs.Operators.{operator_kind};
 
 use crate::{Meant, Under, find};
+use words::kinds;
 
 // Whether a word is an operator between two operands.
+#[tactic(auto, unfolding(frames_law::specs::Operators::operator_kind))]
 fn joins(kind: u8) -> bool
     ensures { result ≡ operator_kind kind }
 {
-    if kind == 3 {
-        return true;
-    }
-    if kind == 4 {
-        return true;
-    }
-    if kind == 6 {
-        return true;
-    }
-    if kind < 18 {
-        return false;
-    }
-    kind <= 25
+    matches!(
+        kind,
+        kinds::OR | kinds::UNEQUAL | kinds::EQUAL | kinds::ABOVE..=kinds::REST
+    )
 }
 
 // What the text of an actual is by itself.
@@ -30,18 +23,18 @@ fn single(s: &[u8], from: u16) -> Meant
     requires { length s.now ≤ 8192 }
     ensures { SingleBy s.now from result }
 {
-    if from as usize > s.len() {
+    if usize::from(from) > s.len() {
         return Meant::Neither;
     }
     let w = hand::word_from(s, from);
-    if w.kind != 0 {
+    if w.kind != kinds::NAME {
         return Meant::Neither;
     }
     let c = hand::word_from(s, w.next);
     if joins(c.kind) {
         return Meant::Neither;
     }
-    if c.kind != 16 {
+    if c.kind != kinds::LEFT {
         return Meant::Name {
             a: w.place,
             b: w.next,
@@ -65,15 +58,8 @@ fn bit_of(v: Meant, j: u16) -> Meant
     ensures { result ≡ bit_of v j }
 {
     match v {
-        Meant::Name { a, b } => {
-            return Meant::Bit { a, b, j };
-        }
-        Meant::Bit { a, b, j } => {
-            return Meant::Neither;
-        }
-        Meant::Neither => {
-            return Meant::Neither;
-        }
+        Meant::Name { a, b } => Meant::Bit { a, b, j },
+        _ => Meant::Neither,
     }
 }
 
@@ -82,20 +68,13 @@ pub fn meant(s: &[u8], t: &[u8], u: Under, a: u16, b: u16) -> Meant
     requires { length s.now ≤ 8192 }
     ensures { MeantBy s.now (beside t.now).names u a b result }
 {
-    let q = find::formal(s, t, u, a, b);
-    if q == 65535 {
+    let Some(q) = find::formal(s, t, u, a, b) else {
         return Meant::Name { a, b };
-    }
+    };
     let v = find::caller(t, u);
     match single(s, q) {
-        Meant::Name { a, b } => {
-            return meant(s, t, v, a, b);
-        }
-        Meant::Bit { a, b, j } => {
-            return bit_of(meant(s, t, v, a, b), j);
-        }
-        Meant::Neither => {
-            return Meant::Neither;
-        }
+        Meant::Name { a, b } => meant(s, t, v, a, b),
+        Meant::Bit { a, b, j } => bit_of(meant(s, t, v, a, b), j),
+        Meant::Neither => Meant::Neither,
     }
 }

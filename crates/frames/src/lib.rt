@@ -10,6 +10,7 @@ pub mod follow;
 pub mod list;
 pub mod put;
 
+// `at` stays a number: `told_at` of frames_law/specs/Frames compares it with `no_place`, and theorems up to the compiler's speak of it.
 // Under which call a text is read: the place told (65,535: the word's own), the frame, how many calls are open, how many procedures can be called, and where the next frame is written.
 #[derive(Clone, Copy)]
 pub struct Under {
@@ -36,11 +37,9 @@ pub enum Meant {
 }
 
 // P9: the place told under u, the outermost call's or the word's own.
+#[tactic(auto, unfolding(frames_law::specs::Frames::told_at))]
 pub fn told(u: Under, p: u16) -> u16
     ensures { result ≡ told_at u.at p }
 {
-    if u.at < 65535 {
-        return u.at;
-    }
-    p
+    if u.at < 65535 { u.at } else { p }
 }

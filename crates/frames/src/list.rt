@@ -1,5 +1,5 @@
 // The formals of a procedure, read again from the text.
-ghost use Rattle.std.specs.Prelude.{◌≡◌, length};
+ghost use Rattle.std.specs.Prelude.{◌≡◌, false, length};
 ghost use Rattle.meaning.specs.Declared.{same_bytes};
 ghost use Rattle.words.specs.Runs.{part};
 ghost use Rattle.language.specs.Scan.{next_word};
@@ -8,7 +8,7 @@ ghost use Rattle.frames.specs.Layout.{past_next, formals_at, body_from};
 ghost use Rattle.frames.specs.List.{Lists, index_in};
 ghost use Rattle.frames.specs.Meant.{placed};
 
-use words::Next;
+use words::{Next, kinds};
 
 // A word of a list: whether it is a name, whether it is a comma, where it starts and ends, and where to go on.
 #[derive(Clone, Copy)]
@@ -27,38 +27,33 @@ pub struct Heading {
     pub body: usize,
 }
 
+// No word: the reading goes on from a place.
+fn no_word(past: usize) -> Listed
+    ensures { result ≡ record { name = false; comma = false; start = 0; end = 0; past = past } }
+{
+    Listed {
+        name: false,
+        comma: false,
+        start: 0,
+        end: 0,
+        past,
+    }
+}
+
 // The next word from a place on.
 fn word_of(s: &[u8], from: usize) -> Listed
     ensures { Lists s.now (next_word s.now from) result }
 {
     match words::next_word(s, from) {
-        Next::Found(w) => {
-            return Listed {
-                name: w.kind == 0,
-                comma: w.kind == 13,
-                start: w.start,
-                end: w.end,
-                past: w.end,
-            };
-        }
-        Next::Stops(e) => {
-            return Listed {
-                name: false,
-                comma: false,
-                start: 0,
-                end: 0,
-                past: e,
-            };
-        }
-        Next::Over => {
-            return Listed {
-                name: false,
-                comma: false,
-                start: 0,
-                end: 0,
-                past: 0,
-            };
-        }
+        Next::Found(w) => Listed {
+            name: w.kind == kinds::NAME,
+            comma: w.kind == kinds::COMMA,
+            start: w.start,
+            end: w.end,
+            past: w.end,
+        },
+        Next::Stops(e) => no_word(e),
+        Next::Over => no_word(0),
     }
 }
 
@@ -70,27 +65,25 @@ fn past(s: &[u8], from: usize) -> usize
 }
 
 // Which formal of the procedure whose name stands at p has the name from a to b.
-pub fn index(s: &[u8], p: usize, a: u16, b: u16) -> u16
+pub fn index(s: &[u8], p: usize, a: u16, b: u16) -> Option<u16>
     ensures { placed result ≡ index_in s.now (formals_at s.now p) (part s.now a b) }
 {
     let mut from = past(s, past(s, p));
-    let mut i: u16 = 0;
-    while i < 8192 {
+    for i in 0..8192 {
         let w = word_of(s, from);
         if !w.name {
-            return 65535;
+            return None;
         }
-        if words::same_name(s, w.start, w.end, a as usize, b as usize) {
-            return i;
+        if words::same_name(s, w.start, w.end, usize::from(a), usize::from(b)) {
+            return Some(i);
         }
         let c = word_of(s, w.past);
         if !c.comma {
-            return 65535;
+            return None;
         }
         from = c.past;
-        i += 1;
     }
-    65535
+    None
 }
 
 // Whether the word at p is the name from a to b.
@@ -98,7 +91,7 @@ pub fn same_at(s: &[u8], p: usize, a: u16, b: u16) -> bool
     ensures { result ≡ same_bytes (bytes_at s.now p) (part s.now a b) }
 {
     let w = word_of(s, p);
-    words::same_name(s, w.start, w.end, a as usize, b as usize)
+    words::same_name(s, w.start, w.end, usize::from(a), usize::from(b))
 }
 
 // How many formals the procedure has whose name stands at p, and where its body begins.
@@ -106,8 +99,7 @@ pub fn head_of(s: &[u8], p: usize) -> Heading
     ensures { (result.count ≡ length (formals_at s.now p)) × (result.body ≡ body_from s.now p) }
 {
     let mut from = past(s, past(s, p));
-    let mut i: u16 = 0;
-    while i < 8192 {
+    for i in 0..8192 {
         let w = word_of(s, from);
         if !w.name {
             return Heading {
@@ -123,10 +115,9 @@ pub fn head_of(s: &[u8], p: usize) -> Heading
             };
         }
         from = c.past;
-        i += 1;
     }
     Heading {
-        count: i,
+        count: 8192,
         body: past(s, from),
     }
 }

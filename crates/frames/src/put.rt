@@ -20,15 +20,16 @@ fn put_half(t: &mut [u8], o: u32, x: u16)
     requires { o < 1000000 }
     ensures { Puts t.old t.new (half_in (beside t.old).names o x) }
 {
-    put_byte(t, o, (x % 256) as u8);
-    put_byte(t, o + 1, (x / 256) as u8);
+    let [low, high] = x.to_le_bytes();
+    put_byte(t, o, low);
+    put_byte(t, o + 1, high);
 }
 
 // The caller's frame, and the place of the procedure's name.
 pub fn put_frame(t: &mut [u8], top: u16, caller: u16, p: u16)
     ensures { Puts t.old t.new (frame_in (beside t.old).names top caller p) }
 {
-    let o = top as u32;
+    let o = u32::from(top);
     put_half(t, o, caller);
     put_half(t, o + 2, p);
 }
@@ -37,7 +38,7 @@ pub fn put_frame(t: &mut [u8], top: u16, caller: u16, p: u16)
 pub fn put_actual(t: &mut [u8], top: u16, i: u16, place: u16, parts: u16, levels: u8)
     ensures { Puts t.old t.new (actual_in (beside t.old).names (top + 4 + i * 4) place parts levels) }
 {
-    let o = top as u32 + 4 + i as u32 * 4;
+    let o = u32::from(top) + 4 + u32::from(i) * 4;
     put_byte(t, o, (place % 256) as u8);
     put_byte(t, o + 1, (place / 256 % 32 + parts % 8 * 32) as u8);
     put_byte(t, o + 2, (parts / 8 % 256) as u8);
@@ -48,12 +49,10 @@ pub fn put_actual(t: &mut [u8], top: u16, i: u16, place: u16, parts: u16, levels
 pub fn clean(t: &[u8], from: u16, to: u16) -> bool
     ensures { result ≡ zero_from (beside t.now).names from (to - from) }
 {
-    let mut i = from;
-    while i < to {
-        if area::byte_at(t, i as u32) != 0 {
+    for i in from..to {
+        if area::byte_at(t, u32::from(i)) != 0 {
             return false;
         }
-        i += 1;
     }
     true
 }
@@ -62,9 +61,7 @@ pub fn clean(t: &[u8], from: u16, to: u16) -> bool
 pub fn clear(t: &mut [u8], from: u16, to: u16)
     ensures { Puts t.old t.new (wiped (beside t.old).names from (to - from)) }
 {
-    let mut i = from;
-    while i < to {
-        put_byte(t, i as u32, 0);
-        i += 1;
+    for i in from..to {
+        put_byte(t, u32::from(i), 0);
     }
 }

@@ -6,7 +6,7 @@ use mathlib.Core.List.{List, [], map, map-id}
 use mathlib.Core.Option.{Option, none, some}
 use Prim.Native.Nat.{ℕ, zero, suc, ◌+◌, ◌≤◌, min}
 use native.Mathlib.Omega.{arith}
-use lib.Dec.{leb, ltb}
+use lib.Dec.{leb}
 use borrow.Author.Tests.{leb-true}
 use Rattle.meaning.specs.Tree.{Name}
 use Rattle.meaning.specs.Kinds.{both}
@@ -27,12 +27,9 @@ use Rattle.kept_law.specs.Kept.{Every}
 use Rattle.kept_law.specs.Written.{WrittenAll, WrittenProcedure}
 use Rattle.kept_law.proofs.Written.{procedure-written, called-written, none-passing}
 use Rattle.kept_law.proofs.Few.{all-few}
-use Rattle.frames_law.specs.Frames.{no_place}
 use Rattle.frames.specs.Layout.{wide_at}
-use Rattle.frames.specs.Meant.{placed}
 use Rattle.frames.specs.Open.{Rows}
 use Rattle.frames.specs.Row.{row_in}
-use Rattle.frames.proofs.Formal.{none-some}
 use Rattle.frames.proofs.Rowed.{Calls, calls-none, calls-row}
 use Rattle.tally.specs.Tally.{most_counted}
 
@@ -106,13 +103,9 @@ module _ (s z : List ℕ) (n : ℕ) (ps : List Procedure) (rows : Rows s z n ps)
       by true q = sym (ap (λ (b : Bool). cond b (wide_all (wides c.before) p.body) (wide_call (wides c.before) v ts)) c.name)
       by false q = absurd (stays_few (other q) e)
 
-  pub row_kept : (r : ℕ) → placed r ≡ row_in s z n v.bytes → (own_all false whole nothing).over ≡ true → wide_at z r ≡ kept ps v ts
-  row_kept r found e = by (row_in s z n v.bytes) refl found ∙ sym (ap (λ (b : Bool). cond b (wide_call (wides ps) v ts) (activities_all (base_all whole))) e)
+  pub row_kept : {w : ℕ} {o : Option ℕ} → o ≡ row_in s z n v.bytes → ((r : ℕ) → o ≡ some r → w ≡ wide_at z r) → (own_all false whole nothing).over ≡ true → w ≡ kept ps v ts
+  row_kept {w} {o} found wide e = by o (sym found) wide ∙ sym (ap (λ (b : Bool). cond b (wide_call (wides ps) v ts) (activities_all (base_all whole))) e)
     where
-      here : (b : Bool) (i : ℕ) → cond b (some r) none ≡ some i → r ≡ i
-      here true i q = cc
-      here false i q = none-some q
-
-      by : (o : Option ℕ) → row_in s z n v.bytes ≡ o → placed r ≡ o → wide_at z r ≡ wide_call (wides ps) v ts
+      by : (o : Option ℕ) → row_in s z n v.bytes ≡ o → ((r : ℕ) → o ≡ some r → w ≡ wide_at z r) → w ≡ wide_call (wides ps) v ts
       by none q f = absurd (stays_few (calls-none s z v n ps rows q v.place actuals) e)
-      by (some i) q f = ap (wide_at z) (here (ltb r no_place) i f) ∙ row-wide i (calls-row s z v n ps i rows q) e
+      by (some i) q f = f i refl ∙ row-wide i (calls-row s z v n ps i rows q) e

@@ -3,6 +3,7 @@
 use mathlib.Core.Bool.{true, false}
 use mathlib.Core.Path.{◌≡◌, refl, sym, ◌∙◌, ap, ap₂, subst}
 use mathlib.Core.List.{List, [], ◌∷◌}
+use mathlib.Core.Option as option
 use Prim.Native.Nat.{ℕ, ◌≤◌}
 use native.Mathlib.Omega.{arith}
 use Rattle.meaning.specs.Tree.{Name}
@@ -26,7 +27,7 @@ use Rattle.parts.specs.Beside.{Beside, beside}
 use Rattle.parts.proofs.Beside.{same_area}
 use Rattle.frames.specs.declared.Under.{Under}
 use Rattle.frames.specs.Layout.{wide_at}
-use Rattle.frames.specs.Meant.{placed}
+use Rattle.frames.proofs.Formal.{none-some}
 use Rattle.frames.specs.Open.{Open}
 use Rattle.frames.specs.Row.{row_in}
 use Rattle.items.specs.Came.{CallAt}
@@ -74,8 +75,8 @@ module _ {s : List ℕ} {u : Under} {n : ℕ} {h : Here} {t t₁ : List ℕ} {m 
   same_after = same_area t t₁ came.on.tree came.on.kept
 
   -- a statement or a part too many
-  pub measured_passed : {r : Gauged} (row : ℕ) {w : ℕ} → m.passed ≡ true → placed row ≡ row_in s (beside t₁).names u.seen (part s h.place h.next) → w ≡ wide_at (beside t₁).names row → r ≡ record { word = m.word; over = true; acts = w; deep = false } → Measures s u n h t t₁ r
-  measured_passed row passed found wide made =
+  measured_passed : {r : Gauged} {o : option.Option ℕ} {w : ℕ} → m.passed ≡ true → o ≡ row_in s (beside t₁).names u.seen (part s h.place h.next) → ((row : ℕ) → o ≡ option.some row → w ≡ wide_at (beside t₁).names row) → r ≡ record { word = m.word; over = true; acts = w; deep = false } → Measures s u n h t t₁ r
+  measured_passed passed found wide made =
       rw made
       (record {
         near = came.on.near;
@@ -88,11 +89,18 @@ module _ {s : List ℕ} {u : Under} {n : ℕ} {h : Here} {t t₁ : List ℕ} {m 
             record {
               word = i.word;
               over = sym (counts-around (expansion ps x ts) 0 (omega arith) counts);
-              acts = λ e. wide ∙ ap (λ (d : Beside). wide_at d.names row) came.on.kept ∙ row_kept s (beside t).names u.seen ps o.rows x ts row (found ∙ ap₂ (λ (d : Beside) (b : List ℕ). row_in s d.names u.seen b) came.on.kept c.stands.0.bytes) counts;
+              acts = λ e. row_kept s (beside t).names u.seen ps o.rows x ts (found ∙ ap₂ (λ (d : Beside) (b : List ℕ). row_in s d.names u.seen b) came.on.kept c.stands.0.bytes) (λ row q. wide row q ∙ ap (λ (d : Beside). wide_at d.names row) came.on.kept) counts;
               deep = λ e. absurd (let z : ◌≡◌ {A = ℕ} 0 1 = cc in omega arith);
               none = passes_none o c.word ts;
             };
       })
+
+  pub measured_row : {r : Gauged} {row w : ℕ} → m.passed ≡ true → option.some row ≡ row_in s (beside t₁).names u.seen (part s h.place h.next) → w ≡ wide_at (beside t₁).names row → r ≡ record { word = m.word; over = true; acts = w; deep = false } → Measures s u n h t t₁ r
+  measured_row {row = row} passed found wide made = measured_passed passed found (λ i q. let e : row ≡ i = cc in wide ∙ ap (wide_at (beside t₁).names) e) made
+
+  -- .. of no procedure: none is
+  pub measured_missing : {r : Gauged} {w : ℕ} → m.passed ≡ true → option.none ≡ row_in s (beside t₁).names u.seen (part s h.place h.next) → r ≡ record { word = m.word; over = true; acts = w; deep = false } → Measures s u n h t t₁ r
+  measured_missing passed found made = measured_passed passed found (λ i q. none-some q) made
 
   -- another size: by itself, or by the levels around
   pub measured_again : {t₂ : List ℕ} {k : Measured} {r : Gauged} → n ≤ most_levels → m.passed ≡ false → m.over ≡ true → MeasuredCame s (beside t₁).names u 0 h t₁ t₂ k → r ≡ record { word = m.word; over = k.over; acts = m.acts; deep = true } → Measures s u n h t t₂ r

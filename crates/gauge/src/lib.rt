@@ -40,9 +40,10 @@ pub fn measure(s: &[u8], t: &mut [u8], u: Under, around: u8, first: Here) -> Gau
     let m = measure::outermost(s, t, u, first, after, around);
     let word = m.word;
     if m.passed {
-        let row = find::procedure(s, t, u.seen, first.place, first.next);
-        let acts = area::wide_at(t, row) as u16;
-        return made(word, true, acts, false);
+        let Some(row) = find::procedure(s, t, u.seen, first.place, first.next) else {
+            return made(word, true, 0, false);
+        };
+        return made(word, true, u16::from(area::wide_at(t, row)), false);
     }
     if m.over {
         let own = measure::outermost(s, t, u, first, after, 0);

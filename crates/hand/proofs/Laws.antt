@@ -84,8 +84,10 @@ module _ {s : List ℕ} {from : ℕ} (short : length s ≤ 8192) (inside : from 
         stands = none-stands (record { kind = 255; place = length s; next = length s; value = 0 }) n;
       }
 
-  pub begins-stop : {p : ℕ} → r ≡ Stops p → Begins s from (record { kind = 255; place = length s; next = length s; value = 0 })
-  begins-stop e = none-begins (λ v q. let z : ◌≡◌ {A = ℕ} 0 1 = cc (rw e at x.says, q) in omega arith)
-
-  pub begins_over : r ≡ Over → Begins s from (record { kind = 255; place = length s; next = length s; value = 0 })
-  begins_over e = none-begins (λ v q. let z : ◌≡◌ {A = ℕ} 0 1 = cc (rw e at x.says, q) in omega arith)
+  pub begins_none : ((w : scanned.Word) → r ≡ Found w → ⊥) → Begins s from (record { kind = 255; place = length s; next = length s; value = 0 })
+  begins_none other = go r refl
+    where
+      go : (n : Next) → r ≡ n → Begins s from (record { kind = 255; place = length s; next = length s; value = 0 })
+      go (Found w) e = absurd (other w e)
+      go (Stops p) e = none-begins (λ v q. let z : ◌≡◌ {A = ℕ} 0 1 = cc (rw e at x.says, q) in omega arith)
+      go Over e = none-begins (λ v q. let z : ◌≡◌ {A = ℕ} 0 1 = cc (rw e at x.says, q) in omega arith)

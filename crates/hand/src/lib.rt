@@ -6,6 +6,7 @@ ghost use Rattle.hand.specs.Along.{Begins};
 
 use words::Next;
 
+// The kind stays a number: `Same` and `Near` of specs/Along, and `list_of`, `ends_list` and `operator_kind` above them, speak of it by number.
 // The word to be read next: its kind's number (255 at the end), its place, the place behind it, and a number's value.
 #[derive(Clone, Copy)]
 pub struct Here {
@@ -20,30 +21,18 @@ pub fn word_from(s: &[u8], from: u16) -> Here
     requires { (length s.now ≤ 8192) × (from ≤ length s.now) }
     ensures { Begins s.now from result }
 {
-    match words::next_word(s, from as usize) {
-        Next::Found(w) => {
-            return Here {
-                kind: w.kind,
-                place: w.start as u16,
-                next: w.end as u16,
-                value: w.value as u16,
-            };
-        }
-        Next::Stops(e) => {
-            return Here {
-                kind: 255,
-                place: s.len() as u16,
-                next: s.len() as u16,
-                value: 0,
-            };
-        }
-        Next::Over => {
-            return Here {
-                kind: 255,
-                place: s.len() as u16,
-                next: s.len() as u16,
-                value: 0,
-            };
-        }
+    match words::next_word(s, usize::from(from)) {
+        Next::Found(w) => Here {
+            kind: w.kind,
+            place: w.start as u16,
+            next: w.end as u16,
+            value: w.value as u16,
+        },
+        _ => Here {
+            kind: 255,
+            place: s.len() as u16,
+            next: s.len() as u16,
+            value: 0,
+        },
     }
 }

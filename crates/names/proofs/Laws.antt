@@ -21,25 +21,27 @@ module _ {s : List ℕ} {from : ℕ} {r : Next} (x : Answers s from r) where
   unfolding value_of
   second-found {w} e = let q : Scan.found (word_in s w) ≡ next_word s from = rw e at x.says in rw (← q) (sound x e).value
 
-  pub second-stop : {p : ℕ} → r ≡ Stops p → 0 ≡ value_of (next_word s from)
+  pub second_none : ((w : scanned.Word) → r ≡ Found w → ⊥) → 0 ≡ value_of (next_word s from)
   unfolding value_of
-  second-stop {p} e = let q : Scan.stops p ≡ next_word s from = rw e at x.says in rw (← q) refl
-
-  pub second_over : r ≡ Over → 0 ≡ value_of (next_word s from)
-  unfolding value_of
-  second_over e = let q : Scan.over ≡ next_word s from = rw e at x.says in rw (← q) refl
+  second_none other = go r refl
+    where
+      go : (n : Next) → r ≡ n → 0 ≡ value_of (next_word s from)
+      go (Found w) e = absurd (other w e)
+      go (Stops p) e = let q : Scan.stops p ≡ next_word s from = rw e at x.says in rw (← q) refl
+      go Over e = let q : Scan.over ≡ next_word s from = rw e at x.says in rw (← q) refl
 
   pub width-found : {w : scanned.Word} {v : ℕ} → r ≡ Found w → v ≡ value_of (next_word s w.end) → v ≡ width_at s from
   unfolding width_at second_of
   width-found {w} e f = let q : Scan.found (word_in s w) ≡ next_word s from = rw e at x.says in rw (← q) (f ∙ ap (λ (p : ℕ). value_of (next_word s p)) (sym (behind_is (sound x e))))
 
-  pub width-stop : {p : ℕ} → r ≡ Stops p → 0 ≡ width_at s from
+  pub width_none : ((w : scanned.Word) → r ≡ Found w → ⊥) → 0 ≡ width_at s from
   unfolding width_at second_of
-  width-stop {p} e = let q : Scan.stops p ≡ next_word s from = rw e at x.says in rw (← q) refl
-
-  pub width_over : r ≡ Over → 0 ≡ width_at s from
-  unfolding width_at second_of
-  width_over e = let q : Scan.over ≡ next_word s from = rw e at x.says in rw (← q) refl
+  width_none other = go r refl
+    where
+      go : (n : Next) → r ≡ n → 0 ≡ width_at s from
+      go (Found w) e = absurd (other w e)
+      go (Stops p) e = let q : Scan.stops p ≡ next_word s from = rw e at x.says in rw (← q) refl
+      go Over e = let q : Scan.over ≡ next_word s from = rw e at x.says in rw (← q) refl
 
 -- ---- one entry after the other
 

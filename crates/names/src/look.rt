@@ -10,27 +10,21 @@ ghost use Rattle.names.specs.Came.{variable_of};
 use crate::Found;
 use words::Next;
 
-// A byte as an index.
-fn wide(x: u8) -> usize
-    ensures { result ≡ x }
-{
-    x as usize
-}
-
 // The place of the name of entry i.
 pub fn place_at(t: &[u8], i: usize) -> usize
     requires { i * 4 + 4 ≤ length t.now }
     ensures { (result ≡ place_at t.now i) × (result < 8192) }
 {
-    wide(t[i * 4]) + wide(t[i * 4 + 1]) % 32 * 256
+    usize::from(u16::from_le_bytes([t[i * 4], t[i * 4 + 1]]) % 8192)
 }
 
 // The place behind it.
+#[tactic(auto, unfolding(crate::specs::Look::end_at))]
 fn end_at(t: &[u8], i: usize) -> usize
     requires { i * 4 + 4 ≤ length t.now }
     ensures { result ≡ end_at t.now i }
 {
-    place_at(t, i) + wide(t[i * 4 + 2])
+    place_at(t, i) + usize::from(t[i * 4 + 2])
 }
 
 // The value of the word from a place on.
@@ -38,15 +32,8 @@ fn second(s: &[u8], from: usize) -> u16
     ensures { result ≡ value_of (next_word s.now from) }
 {
     match words::next_word(s, from) {
-        Next::Found(w) => {
-            return w.value as u16;
-        }
-        Next::Stops(e) => {
-            return 0;
-        }
-        Next::Over => {
-            return 0;
-        }
+        Next::Found(w) => w.value as u16,
+        _ => 0,
     }
 }
 
@@ -55,35 +42,26 @@ fn width_at(s: &[u8], from: usize) -> u16
     ensures { result ≡ width_at s.now from }
 {
     match words::next_word(s, from) {
-        Next::Found(w) => {
-            return second(s, w.end);
-        }
-        Next::Stops(e) => {
-            return 0;
-        }
-        Next::Over => {
-            return 0;
-        }
+        Next::Found(w) => second(s, w.end),
+        _ => 0,
     }
 }
 
 // What entry i stands for.
+#[tactic(auto, unfolding(crate::specs::Look::entry_at, crate::specs::Look::variable_by, crate::specs::Look::kind_at))]
 fn entry_at(s: &[u8], t: &[u8], i: usize) -> Found
     requires { i * 4 + 4 ≤ length t.now }
     ensures { variable_of result ≡ some (entry_at s.now t.now i) }
 {
-    let k = t[i * 4 + 1] / 32;
     let n = t[i * 4 + 3];
-    if k == 0 {
-        return Found::Input(n);
-    }
-    if k == 3 {
-        return Found::Integer {
+    match t[i * 4 + 1] / 32 {
+        0 => Found::Input(n),
+        3 => Found::Integer {
             low: n,
             width: width_at(s, end_at(t, i)),
-        };
+        },
+        _ => Found::Boolean(n),
     }
-    Found::Boolean(n)
 }
 
 // What the name from a to b stands for, among so many entries.
@@ -91,15 +69,12 @@ pub fn find(s: &[u8], t: &[u8], names: u16, a: u16, b: u16) -> Found
     requires { names * 4 ≤ length t.now }
     ensures { variable_of result ≡ look_in s.now t.now names (part s.now a b) }
 {
-    let count = names as usize;
-    let mut i: usize = 0;
-    while i < count {
+    for i in 0..usize::from(names) {
         let p = place_at(t, i);
         let q = end_at(t, i);
-        if words::same_name(s, p, q, a as usize, b as usize) {
+        if words::same_name(s, p, q, usize::from(a), usize::from(b)) {
             return entry_at(s, t, i);
         }
-        i += 1;
     }
     Found::Nothing
 }
@@ -108,10 +83,5 @@ pub fn find(s: &[u8], t: &[u8], names: u16, a: u16, b: u16) -> Found
 pub fn known(v: Found) -> bool
     ensures { result ≡ not (missing (variable_of v)) }
 {
-    match v {
-        Found::Nothing => false,
-        Found::Input(i) => true,
-        Found::Boolean(j) => true,
-        Found::Integer { low, width } => true,
-    }
+    !matches!(v, Found::Nothing)
 }

@@ -4,10 +4,9 @@ use mathlib.Core.Bool.{Bool, true, false, cond}
 use mathlib.Core.Path.{◌≡◌, refl, sym, ◌∙◌, ap}
 use mathlib.Core.List.{List, [], ◌∷◌}
 use mathlib.Core.Option.{Option, none, some}
-use Prim.Native.Nat.{ℕ, zero, suc, ◌+◌, ◌<◌, min, max}
+use Prim.Native.Nat.{ℕ, zero, suc, ◌+◌, min, max}
 use Prim.Native.String.{String}
 use native.Mathlib.Omega.{arith}
-use borrow.Author.Tests.{lt-ltb}
 use lib.ListN.{length, length-append}
 use Rattle.meaning.specs.Tree.{plus, minus, times, quotient, remainder, equal, unequal, greater, less, and, or}
 use Rattle.meaning.specs.Items.{within}
@@ -24,7 +23,7 @@ use Rattle.frames.specs.declared.Under.{Under}
 use Rattle.frames.specs.declared.Sizes.{Sizes}
 use Rattle.frames.specs.Layout.{frames_of}
 use Rattle.frames.specs.Open.{parts_of, levels_of}
-use Rattle.frames.specs.Meant.{placed, formal_under, SizesOf}
+use Rattle.frames.specs.Meant.{formal_under, SizesOf}
 use Rattle.sizes.specs.declared.Extent.{Extent}
 use Rattle.sizes.specs.Counts.{Counts, CountsUnder, leaf_of, formal_of, over_of, inside_of, joined_of}
 
@@ -130,15 +129,15 @@ module _ {s z : List ℕ} {u : Under} where
   bit_under {r} {w} {v} {j} e = record { counts = λ bound f g. rw e (bit-counts (told_at u.at) bound v j w) }
 
   -- P5: a name that is no formal, and a formal
-  pub name_under : {r : Extent} {w : Here} {v : Name} {p : ℕ} → placed p ≡ formal_under s z u v.bytes → p ≡ 65535 → r ≡ leaf_of w → CountsUnder s z u r (variable v)
-  name_under {r} {w} {v} {p} is none_there e =
-      record { counts = λ bound f g. rw e (name-counts (told_at u.at) bound v w (not_formal s (frames_of s z) u.at u.frame bound u.depth v.bytes f (sym is ∙ ap placed none_there))) }
+  pub name_under : {r : Extent} {w : Here} {v : Name} → none ≡ formal_under s z u v.bytes → r ≡ leaf_of w → CountsUnder s z u r (variable v)
+  name_under {r} {w} {v} is e =
+      record { counts = λ bound f g. rw e (name-counts (told_at u.at) bound v w (not_formal s (frames_of s z) u.at u.frame bound u.depth v.bytes f (sym is))) }
 
-  pub formal_under_lem : {r : Extent} {w : Here} {v : Name} {p : ℕ} {k : Sizes} → placed p ≡ formal_under s z u v.bytes → ¬ (p ≡ 65535) → p < 65536 → SizesOf s z u v.bytes k → r ≡ formal_of w k → CountsUnder s z u r (variable v)
-  formal_under_lem {r} {w} {v} {p} {k} is there fits sizes e =
+  pub formal_under_lem : {r : Extent} {w : Here} {v : Name} {p : ℕ} {k : Sizes} → some p ≡ formal_under s z u v.bytes → SizesOf s z u v.bytes k → r ≡ formal_of w k → CountsUnder s z u r (variable v)
+  formal_under_lem {r} {w} {v} {p} {k} is sizes e =
       record {
         counts = λ bound f g.
-            let (x, a) = is_formal s (frames_of s z) u.at u.frame bound u.depth v.bytes p f (sym is ∙ ap (λ (b : Bool). cond b (some p) none) (lt-ltb p 65535 (omega arith))) in
+            let (x, a) = is_formal s (frames_of s z) u.at u.frame bound u.depth v.bytes p f (sym is) in
             let (h, l) = sizes bound f g x a in
             rw e (formal-counts (told_at u.at) bound v w k x a h l);
       }

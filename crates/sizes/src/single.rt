@@ -11,10 +11,10 @@ use hand::Here;
 fn named(s: &[u8], t: &[u8], u: Under, h: Here, word: Here) -> Extent
     ensures { SizesName s.now t.now u h word result }
 {
-    if frames::find::formal(s, t, u, h.place, h.next) == 65535 {
-        return counts::leaf(word);
+    match frames::find::formal(s, t, u, h.place, h.next) {
+        None => counts::leaf(word),
+        Some(_) => counts::formal(word, frames::find::sizes(s, t, u, h.place, h.next)),
     }
-    counts::formal(word, frames::find::sizes(s, t, u, h.place, h.next))
 }
 
 // A name, a bit, a number, `true` or `false`: the rows 0 to 3 of an operand.

@@ -26,8 +26,6 @@ use Rattle.frames.specs.Layout.{half_at, row_at, procedure_at, wide_at, formals_
 use Rattle.frames.specs.Open.{ProcedureAt}
 use Rattle.frames.specs.Row.{row_in}
 use Rattle.frames.specs.Put.{Puts}
-use Rattle.frames.specs.Meant.{placed}
-use Rattle.frames.proofs.Listed.{placed-some}
 use Rattle.frames_law.specs.Frames.{NamedAt}
 use Rattle.frames.proofs.Heads.{word_moves, Head, named, head_of}
 use Rattle.frames.proofs.Putting.{put-here, put-past, puts_size, puts_names}
@@ -39,25 +37,22 @@ use Rattle.wides.proofs.Leading.{none-some}
 
 -- ---- a call by the row that was found
 
-module _ (s z x : List ℕ) (n c r : ℕ) (e : placed r ≡ row_in s z n x) where
-  pub call_none : r ≡ 65535 → 1 ≡ wide_in s z n x c
-  call_none h = ap (wide_by s z c) (nothing r h ∙ e)
-    where
-      nothing : (r : ℕ) → r ≡ 65535 → none ≡ placed r
-      nothing r h = rw h refl
+pub call_none : (s z x : List ℕ) (n c : ℕ) → none ≡ row_in s z n x → 1 ≡ wide_in s z n x c
+call_none s z x n c e = ap (wide_by s z c) e
 
-  by_row : ¬ (r ≡ 65535) → r < 65536 → cond (eqb (length (formals_at s (procedure_at z r))) c) (wide_at z r) 1 ≡ wide_in s z n x c
-  by_row h g = ap (wide_by s z c) (sym (placed-some r (omega (arith, h))) ∙ e)
+module _ (s z x : List ℕ) (n c : ℕ) {r : ℕ} (e : some r ≡ row_in s z n x) where
+  by_row : cond (eqb (length (formals_at s (procedure_at z r))) c) (wide_at z r) 1 ≡ wide_in s z n x c
+  by_row = ap (wide_by s z c) e
 
-  module _ {p f : ℕ} (at : p ≡ procedure_at z r) (count : f ≡ length (formals_at s p)) (h : ¬ (r ≡ 65535)) (g : r < 65536) where
+  module _ {p f : ℕ} (at : p ≡ procedure_at z r) (count : f ≡ length (formals_at s p)) where
     counted : length (formals_at s (procedure_at z r)) ≡ f
     counted = sym (count ∙ ap (λ (i : ℕ). length (formals_at s i)) at)
 
     pub call-other : ¬ (f ≡ c) → 1 ≡ wide_in s z n x c
-    call-other i = (let q : 1 ≡ cond (eqb (length (formals_at s (procedure_at z r))) c) (wide_at z r) 1 = rw (counted, ne_eqb f c i) refl in q) ∙ by_row h g
+    call-other i = (let q : 1 ≡ cond (eqb (length (formals_at s (procedure_at z r))) c) (wide_at z r) 1 = rw (counted, ne_eqb f c i) refl in q) ∙ by_row
 
     pub call-row : {w : ℕ} → f ≡ c → w ≡ wide_at z r → w ≡ wide_in s z n x c
-    call-row {w} i v = (let q : w ≡ cond (eqb (length (formals_at s (procedure_at z r))) c) (wide_at z r) 1 = rw (counted, eq-eqb f c i) v in q) ∙ by_row h g
+    call-row {w} i v = (let q : w ≡ cond (eqb (length (formals_at s (procedure_at z r))) c) (wide_at z r) 1 = rw (counted, eq-eqb f c i) v in q) ∙ by_row
 
 -- ---- a call by its procedure
 

@@ -7,6 +7,7 @@ ghost use Rattle.wides.specs.Fill.{wide_in, PassedOver};
 
 use crate::{Passed, counts};
 use hand::Here;
+use words::kinds;
 
 // The parentheses of a call, from the word behind the first on.
 pub fn over(s: &[u8], first: Here) -> Passed
@@ -17,7 +18,7 @@ pub fn over(s: &[u8], first: Here) -> Passed
     let mut deep: u16 = 0;
     let mut count: u16 = 0;
     loop {
-        if word.kind > 62 {
+        if word.kind > kinds::ENDCOMPRESS {
             return Passed { word, count };
         }
         let v = hand::word_from(s, word.next);
@@ -34,13 +35,14 @@ pub fn over(s: &[u8], first: Here) -> Passed
 pub fn of_call(s: &[u8], t: &[u8], n: u16, a: u16, b: u16, count: u16) -> u8
     ensures { result ≡ wide_in s.now (beside t.now).names n (part s.now a b) count }
 {
-    let i = frames::find::procedure(s, t, n, a, b);
-    if i == 65535 {
+    let Some(i) = frames::find::procedure(s, t, n, a, b) else {
         return 1;
+    };
+    let p = frames::area::procedure_at(t, i);
+    let h = frames::list::head_of(s, usize::from(p));
+    if h.count == count {
+        frames::area::wide_at(t, i)
+    } else {
+        1
     }
-    let h = frames::list::head_of(s, frames::area::procedure_at(t, i) as usize);
-    if h.count != count {
-        return 1;
-    }
-    frames::area::wide_at(t, i)
 }

@@ -7,6 +7,7 @@ ghost use Rattle.parts.specs.Beside.{beside};
 ghost use Rattle.wides.specs.Fill.{ListCounted, ParallelCounted, BodyCounted, WideOf, FilledBehind};
 
 use hand::Here;
+use words::kinds;
 
 mod calls;
 mod counts;
@@ -39,7 +40,7 @@ fn list(s: &[u8], t: &[u8], n: u16, first: Here, here: u8) -> Counted
             return Counted { word, acts };
         }
         let v = hand::word_from(s, word.next);
-        if word.kind == 54 {
+        if word.kind == kinds::PARALLEL {
             let c = parallel(s, t, n, v, acts);
             acts = c.acts;
             word = c.word;
@@ -47,10 +48,7 @@ fn list(s: &[u8], t: &[u8], n: u16, first: Here, here: u8) -> Counted
         }
         if counts::calls(word.kind, v.kind) {
             let p = calls::over(s, hand::word_from(s, v.next));
-            acts = counts::larger(
-                acts,
-                calls::of_call(s, t, n, word.place, word.next, p.count),
-            );
+            acts = acts.max(calls::of_call(s, t, n, word.place, word.next, p.count));
             word = p.word;
             continue;
         }
@@ -68,12 +66,12 @@ fn parallel(s: &[u8], t: &[u8], n: u16, first: Here, here: u8) -> Counted
     let mut sum: u8 = 0;
     loop {
         let w = at.word;
-        if w.kind == 55 {
+        if w.kind == kinds::ENDPARALLEL {
             let word = hand::word_from(s, w.next);
-            let acts = counts::larger(here, counts::added(sum, at.acts));
+            let acts = here.max(counts::added(sum, at.acts));
             return Counted { word, acts };
         }
-        if w.kind != 2 {
+        if w.kind != kinds::BARS {
             return at;
         }
         let v = hand::word_from(s, w.next);
@@ -90,7 +88,7 @@ fn body(s: &[u8], t: &[u8], n: u16, first: Here) -> u8
     let mut at = list(s, t, n, first, 1);
     loop {
         let w = at.word;
-        if w.kind > 55 {
+        if w.kind > kinds::ENDPARALLEL {
             return at.acts;
         }
         at = list(s, t, n, hand::word_from(s, w.next), at.acts);
@@ -102,7 +100,8 @@ fn wide_of(s: &[u8], t: &[u8], i: u16) -> u8
     requires { length s.now ≤ 8192 }
     ensures { WideOf s.now (beside t.now).names i result }
 {
-    let h = frames::list::head_of(s, frames::area::procedure_at(t, i) as usize);
+    let p = frames::area::procedure_at(t, i);
+    let h = frames::list::head_of(s, usize::from(p));
     if h.body > s.len() {
         return 1;
     }
@@ -114,10 +113,8 @@ pub fn fill(s: &[u8], t: &mut [u8], n: u16)
     requires { (length s.now ≤ 8192) × (32768 ≤ length t.old) × (n ≤ 4096) }
     ensures { FilledBehind s.now t.old t.new n }
 {
-    let mut i: u16 = 0;
-    while i < n {
+    for i in 0..n {
         let x = wide_of(s, t, i);
         put::put_wide(t, i, x);
-        i += 1;
     }
 }

@@ -9,7 +9,7 @@ pub fn put_wide(t: &mut [u8], i: u16, x: u8)
     requires { i < 4096 }
     ensures { Puts t.old t.new (set (beside t.old).names (row_at i + 2) x) }
 {
-    let j = 32766 - i as usize * 4;
+    let j = 32766 - usize::from(i) * 4;
     if j < t.len() {
         t[j] = x;
     }

@@ -1,20 +1,22 @@
 -- `allow::allowed` meets its contract: one law at each way on; the text left falls with each word.
 -- Assumes nothing.
 use native.Mathlib.Omega.{arith}
-use Rattle.allow.proofs.Laws.{begun, words-end, refused, all_allowed, goes_further}
+use Rattle.allow.proofs.Laws.{begun, words-end, refused, all_allowed, only_last, goes_further}
+use mathlib.Core.Path.{ap}
+use Rattle.allow.specs.Steps.{sort_number}
 use Rattle.allow.proofs.allowed.Goals as goal
 
 pub loop-word-init : goal.loop-word-init
 loop-word-init c = begun c.requires
 
-pub returns-then-word-gt62 : goal.returns-then-word-gt62
-returns-then-word-gt62 c = words-end c.loop-word.invariant c.if-word-gt62.true
+pub returns-then-word-gt-ENDCOMPRESS : goal.returns-then-word-gt-ENDCOMPRESS
+returns-then-word-gt-ENDCOMPRESS c = words-end c.loop-word.invariant c.if-word-gt-ENDCOMPRESS.true
 
 pub returns-then-not-fits : goal.returns-then-not-fits
 returns-then-not-fits c = refused c.loop-word.invariant c.sort_of-sort.ensures c.asked.ensures c.fits.ensures (c.if-not-fits.true)
 
-pub returns-then-sort-eq7 : goal.returns-then-sort-eq7
-returns-then-sort-eq7 c = all_allowed c.loop-word.invariant c.sort_of-sort.ensures c.asked.ensures c.fits.ensures (c.if-not-fits.false) c.if-sort-eq7.true
+pub returns-in-Last : goal.returns-in-Last
+returns-in-Last c = all_allowed c.loop-word.invariant c.sort_of-sort.ensures c.asked.ensures c.fits.ensures (c.if-not-fits.false) (ap sort_number c.in-Last.is)
 
 pub next-state-requires : goal.next-state-requires
 next-state-requires c = omega (arith, c.loop-word.invariant.small)
@@ -23,7 +25,7 @@ pub word_from-word-requires : goal.word_from-word-requires
 word_from-word-requires c = (c.loop-word.invariant.near.short, c.loop-word.invariant.near.inside)
 
 pub loop-word-smaller : goal.loop-word-smaller
-loop-word-smaller c = omega (arith, c.loop-word.invariant.near.more (omega (arith, c.if-word-gt62.false)), c.loop-word.invariant.near.inside, c.word_from-word.ensures.later)
+loop-word-smaller c = omega (arith, c.loop-word.invariant.near.more (omega (arith, c.if-word-gt-ENDCOMPRESS.false)), c.loop-word.invariant.near.inside, c.word_from-word.ensures.later)
 
 pub loop-word-preserved : goal.loop-word-preserved
-loop-word-preserved c = rw c.next-state.ensures (goes_further c.loop-word.invariant c.sort_of-sort.ensures c.asked.ensures c.fits.ensures (c.if-not-fits.false) c.if-word-gt62.false c.if-sort-eq7.false c.word_from-word.ensures)
+loop-word-preserved c = rw c.next-state.ensures (goes_further c.loop-word.invariant c.sort_of-sort.ensures c.asked.ensures c.fits.ensures (c.if-not-fits.false) c.if-word-gt-ENDCOMPRESS.false (only_last c.sort_of-sort.result c.in_default.not-Last) c.word_from-word.ensures)

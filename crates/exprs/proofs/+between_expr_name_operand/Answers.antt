@@ -92,23 +92,23 @@ pub name-find-v-requires : goal.name-find-v-requires
 unfolding beside
 name-find-v-requires t c = c.requires.listed
 
-pub name-returns-then-q : goal.name-returns-then-q
-name-returns-then-q t c = plain_name c.requires.near c.word_from-after.ensures (own_name _ _ c.args.u _ _ c.formal-q.ensures c.if-q.true) c.if-after-eq16.false c.find-v.ensures c.named.ensures.0 (rw c.told.ensures at c.named.ensures.1)
+pub name-returns-in_default : goal.name-returns-in_default
+name-returns-in_default t c = plain_name c.requires.near c.word_from-after.ensures (own_name _ _ c.args.u _ c.in_default.ensures) c.if-after-eq16.false c.find-v.ensures c.named.ensures.0 (rw c.told.ensures at c.named.ensures.1)
 
 pub name-returns-then-q-s : goal.name-returns-then-q-s
-name-returns-then-q-s t c = formal-past _ _ c.args.u c.requires.near c.word_from-after.ensures c.if-after-eq16.false c.formal-q.ensures c.if-q.false (omega arith) c.nothing.ensures c.if-q-s.true
+name-returns-then-q-s t c = formal-past _ _ c.args.u c.requires.near c.word_from-after.ensures c.if-after-eq16.false c.in-Some.ensures c.nothing.ensures c.if-q-s.true
 
 pub name-word_from-requires : goal.name-word_from-requires
 name-word_from-requires t c = (c.requires.near.short, c.if-q-s.false)
 
 pub name-expr-g-requires : goal.name-expr-g-requires
-name-expr-g-requires t c = (omega (arith, c.decreases, ap (λ (v : Under). v.depth) c.caller-around.ensures, meant_deep _ _ c.args.u _ _ _ c.formal-q.ensures c.if-q.false (omega arith)), record { near = c.word_from.ensures.near; listed = c.requires.listed; low = omega arith; few = omega arith })
+name-expr-g-requires t c = (omega (arith, c.decreases, ap (λ (v : Under). v.depth) c.caller-around.ensures, meant_deep _ _ c.args.u _ _ c.in-Some.ensures), record { near = c.word_from.ensures.near; listed = c.requires.listed; low = omega arith; few = omega arith })
 
 pub name-shape_of-t : goal.name-shape_of-t
 name-shape_of-t t c = came-long c.expr-g.ensures
 
 pub name-returns : goal.name-returns
-name-returns t c = formal-read _ _ c.args.u c.requires.near c.word_from-after.ensures c.if-after-eq16.false c.formal-q.ensures c.if-q.false (omega arith) c.behind.ensures.0 c.word_from.ensures c.caller-around.ensures c.expr-g.ensures refl c.behind.ensures.1
+name-returns t c = formal-read _ _ c.args.u c.requires.near c.word_from-after.ensures c.if-after-eq16.false c.in-Some.ensures c.behind.ensures.0 c.word_from.ensures c.caller-around.ensures c.expr-g.ensures refl c.behind.ensures.1
 
 pub operand-name-requires : goal.operand-name-requires
 operand-name-requires t c = (omega (arith, c.decreases, c.requires.0.low), record { near = c.requires.0.near; listed = c.requires.0.listed })

@@ -1,7 +1,8 @@
 -- `gauge::measure` meets its contract.
 -- Assumes nothing.
+use mathlib.Core.Path.{◌∙◌}
 use native.Mathlib.Omega.{arith}
-use Rattle.gauge.proofs.Laws.{measured_none, measured_passed, measured_again, measured_within}
+use Rattle.gauge.proofs.Laws.{measured_none, measured_row, measured_missing, measured_again, measured_within}
 use Rattle.gauge.proofs.measure.Goals as goal
 
 pub returns-then-after-ne14 : goal.returns-then-after-ne14
@@ -15,7 +16,11 @@ outermost-m-requires c =
 
 pub returns-then-m : goal.returns-then-m
 returns-then-m c =
-    measured_passed c.outermost-m.ensures c.procedure-row.result c.if-m.true c.procedure-row.ensures c.wide_at-acts.ensures c.made-then-m.ensures
+    measured_row c.outermost-m.ensures c.if-m.true c.in-Some.ensures (c.from.ensures ∙ c.wide_at.ensures) c.made-then-m.ensures
+
+pub returns-in_default : goal.returns-in_default
+returns-in_default c =
+    measured_missing c.outermost-m.ensures c.if-m.true c.in_default.ensures c.made-in_default.ensures
 
 pub outermost-own-requires : goal.outermost-own-requires
 outermost-own-requires c =

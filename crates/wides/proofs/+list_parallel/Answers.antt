@@ -17,11 +17,11 @@ list-word_from-v-requires t c = (c.loop-word.invariant.near.short, c.loop-word.i
 pub list-parallel-c-requires : goal.list-parallel-c-requires
 list-parallel-c-requires t c = let f = listing_forward c.loop-word.invariant c.word_from-v.ensures (sym c.ends.ensures ∙ c.if-ends.false) in (omega (arith, c.decreases, f.whole, f.room, c.loop-word.invariant.later), c.word_from-v.ensures.near)
 
-pub list-loop-word-smaller-then-word-eq54 : goal.list-loop-word-smaller-then-word-eq54
-list-loop-word-smaller-then-word-eq54 t c = let f = listing_forward c.loop-word.invariant c.word_from-v.ensures (sym c.ends.ensures ∙ c.if-ends.false) in omega (arith, f.own, f.room, c.parallel-c.ensures.later)
+pub list-loop-word-smaller-then-word-eq-PARALLEL : goal.list-loop-word-smaller-then-word-eq-PARALLEL
+list-loop-word-smaller-then-word-eq-PARALLEL t c = let f = listing_forward c.loop-word.invariant c.word_from-v.ensures (sym c.ends.ensures ∙ c.if-ends.false) in omega (arith, f.own, f.room, c.parallel-c.ensures.later)
 
-pub list-loop-word-preserved-then-word-eq54 : goal.list-loop-word-preserved-then-word-eq54
-list-loop-word-preserved-then-word-eq54 t c = listing_parallel c.loop-word.invariant c.word_from-v.ensures c.if-word-eq54.true c.parallel-c.ensures
+pub list-loop-word-preserved-then-word-eq-PARALLEL : goal.list-loop-word-preserved-then-word-eq-PARALLEL
+list-loop-word-preserved-then-word-eq-PARALLEL t c = listing_parallel c.loop-word.invariant c.word_from-v.ensures c.if-word-eq-PARALLEL.true c.parallel-c.ensures
 
 pub list-word_from-requires : goal.list-word_from-requires
 list-word_from-requires t c = (c.loop-word.invariant.near.short, c.word_from-v.ensures.near.inside)
@@ -33,13 +33,13 @@ pub list-loop-word-smaller-then-calls : goal.list-loop-word-smaller-then-calls
 list-loop-word-smaller-then-calls t c = let f = listing_forward c.loop-word.invariant c.word_from-v.ensures (sym c.ends.ensures ∙ c.if-ends.false) in omega (arith, f.own, f.room, c.word_from-v.ensures.near.on, c.word_from.ensures.later, c.over-p.ensures.later)
 
 pub list-loop-word-preserved-then-calls : goal.list-loop-word-preserved-then-calls
-list-loop-word-preserved-then-calls t c = listing_call c.loop-word.invariant c.word_from-v.ensures (sym c.calls.ensures ∙ c.if-calls.true) c.word_from.ensures c.over-p.ensures c.of_call.ensures c.larger-acts.ensures
+list-loop-word-preserved-then-calls t c = listing_call c.loop-word.invariant c.word_from-v.ensures (sym c.calls.ensures ∙ c.if-calls.true) c.word_from.ensures c.over-p.ensures c.of_call.ensures c.max-acts.ensures
 
 pub list-loop-word-smaller : goal.list-loop-word-smaller
 list-loop-word-smaller t c = let f = listing_forward c.loop-word.invariant c.word_from-v.ensures (sym c.ends.ensures ∙ c.if-ends.false) in omega (arith, f.own, f.room)
 
 pub list-loop-word-preserved : goal.list-loop-word-preserved
-list-loop-word-preserved t c = listing_word c.loop-word.invariant c.word_from-v.ensures (sym c.ends.ensures ∙ c.if-ends.false) c.if-word-eq54.false (sym c.calls.ensures ∙ c.if-calls.false)
+list-loop-word-preserved t c = listing_word c.loop-word.invariant c.word_from-v.ensures (sym c.ends.ensures ∙ c.if-ends.false) c.if-word-eq-PARALLEL.false (sym c.calls.ensures ∙ c.if-calls.false)
 
 pub parallel-list-at-requires : goal.parallel-list-at-requires
 parallel-list-at-requires t c = (omega (arith, c.decreases), c.requires)
@@ -50,20 +50,20 @@ parallel-loop-word-init t c = branching_start c.list-at.ensures
 pub parallel-word_from-word-requires : goal.parallel-word_from-word-requires
 parallel-word_from-word-requires t c = (c.loop-word.invariant.near.short, c.loop-word.invariant.near.inside)
 
-pub parallel-returns-then-w-eq55 : goal.parallel-returns-then-w-eq55
-parallel-returns-then-w-eq55 t c = branching_ends c.loop-word.invariant c.list-at.ensures c.word_from-word.ensures c.if-w-eq55.true c.added.ensures c.larger-acts.ensures
+pub parallel-returns-then-w-eq-ENDPARALLEL : goal.parallel-returns-then-w-eq-ENDPARALLEL
+parallel-returns-then-w-eq-ENDPARALLEL t c = branching_ends c.loop-word.invariant c.list-at.ensures c.word_from-word.ensures c.if-w-eq-ENDPARALLEL.true c.added.ensures c.max-acts.ensures
 
-pub parallel-returns-then-w-ne2 : goal.parallel-returns-then-w-ne2
-parallel-returns-then-w-ne2 t c = branching_stops c.loop-word.invariant c.list-at.ensures c.if-w-eq55.false c.if-w-ne2.true
+pub parallel-returns-then-w-ne-BARS : goal.parallel-returns-then-w-ne-BARS
+parallel-returns-then-w-ne-BARS t c = branching_stops c.loop-word.invariant c.list-at.ensures c.if-w-eq-ENDPARALLEL.false c.if-w-ne-BARS.true
 
 pub parallel-word_from-v-requires : goal.parallel-word_from-v-requires
 parallel-word_from-v-requires t c = (c.loop-word.invariant.near.short, c.loop-word.invariant.near.inside)
 
 pub parallel-list-at-requires-in-loop-word : goal.parallel-list-at-requires-in-loop-word
-parallel-list-at-requires-in-loop-word t c = let f = branching_forward c.loop-word.invariant c.list-at.ensures c.word_from-v.ensures c.if-w-ne2.false in (omega (arith, c.decreases, f.whole, f.room, c.list-at.ensures.later, c.loop-word.invariant.later), c.word_from-v.ensures.near)
+parallel-list-at-requires-in-loop-word t c = let f = branching_forward c.loop-word.invariant c.list-at.ensures c.word_from-v.ensures c.if-w-ne-BARS.false in (omega (arith, c.decreases, f.whole, f.room, c.list-at.ensures.later, c.loop-word.invariant.later), c.word_from-v.ensures.near)
 
 pub parallel-loop-word-smaller : goal.parallel-loop-word-smaller
-parallel-loop-word-smaller t c = let f = branching_forward c.loop-word.invariant c.list-at.ensures c.word_from-v.ensures c.if-w-ne2.false in omega (arith, f.own, f.room, c.list-at-in-loop-word.ensures.later)
+parallel-loop-word-smaller t c = let f = branching_forward c.loop-word.invariant c.list-at.ensures c.word_from-v.ensures c.if-w-ne-BARS.false in omega (arith, f.own, f.room, c.list-at-in-loop-word.ensures.later)
 
 pub parallel-loop-word-preserved : goal.parallel-loop-word-preserved
-parallel-loop-word-preserved t c = branching_on c.loop-word.invariant c.word_from-v.ensures c.if-w-ne2.false c.added-sum.ensures c.list-at-in-loop-word.ensures
+parallel-loop-word-preserved t c = branching_on c.loop-word.invariant c.word_from-v.ensures c.if-w-ne-BARS.false c.added-sum.ensures c.list-at-in-loop-word.ensures

@@ -8,7 +8,7 @@ use Rattle.wides.proofs.Filling.{body-wide, body-beyond}
 use Rattle.wides.proofs.wide_of.Goals as goal
 
 pub returns-then-h-s : goal.returns-then-h-s
-returns-then-h-s c = body-beyond c.args.s.now (beside c.args.t.now).names c.requires c.args.i (c.head_of-h.ensures.1 ∙ ap (body_from c.args.s.now) c.procedure_at.ensures) c.if-h-s.true
+returns-then-h-s c = body-beyond c.args.s.now (beside c.args.t.now).names c.requires c.args.i (c.head_of-h.ensures.1 ∙ ap (body_from c.args.s.now) (c.from.ensures ∙ c.procedure_at-p.ensures)) c.if-h-s.true
 
 pub overflow_cast-h : goal.overflow_cast-h
 overflow_cast-h c = omega (arith, c.if-h-s.false, c.requires)
@@ -20,4 +20,4 @@ pub body-requires : goal.body-requires
 body-requires c = c.word_from.ensures.near
 
 pub returns : goal.returns
-returns c = body-wide c.args.s.now (beside c.args.t.now).names c.requires c.args.i (c.head_of-h.ensures.1 ∙ ap (body_from c.args.s.now) c.procedure_at.ensures) c.word_from.ensures c.body.ensures
+returns c = body-wide c.args.s.now (beside c.args.t.now).names c.requires c.args.i (c.head_of-h.ensures.1 ∙ ap (body_from c.args.s.now) (c.from.ensures ∙ c.procedure_at-p.ensures)) c.word_from.ensures c.body.ensures

@@ -3,8 +3,8 @@
 use Rattle.decls.proofs.Laws.{integer-none, integer-value}
 use Rattle.decls.proofs.step.integer_start.Goals as goal
 
-pub returns-then-h-ne7 : goal.returns-then-h-ne7
-returns-then-h-ne7 c = integer-none c.requires c.if-h-ne7.true
+pub returns-then-h-ne-IS : goal.returns-then-h-ne-IS
+returns-then-h-ne-IS c = integer-none c.requires c.if-h-ne-IS.true
 
 pub returns : goal.returns
-returns c = integer-value c.requires c.if-h-ne7.false c.word_from-v.ensures c.word_from-w.ensures
+returns c = integer-value c.requires c.if-h-ne-IS.false c.word_from-v.ensures c.word_from.ensures

@@ -1,13 +1,13 @@
 -- `frames::find::formal` meets its contract.
 -- Assumes nothing.
+use Rattle.std.proofs.Common.{refl}
 use Rattle.frames.proofs.Formal.{formal-none, formal-some}
 use Rattle.parts.specs.Beside.{beside}
 use Rattle.words.specs.Runs.{part}
-use native.Mathlib.Omega.{arith}
 use Rattle.frames.proofs.find.formal.Goals as goal
 
-pub returns-then-i : goal.returns-then-i
-returns-then-i c = formal-none c.args.s.now (beside c.args.t.now).names c.args.u.frame (part c.args.s.now c.args.a c.args.b) c.index-i.result c.index-i.ensures c.args.u.depth c.if-u-eq0.false c.if-i.true
+pub returns-in_err-i : goal.returns-in_err-i
+returns-in_err-i c = let a = c.args in rw c.from_residual.ensures (formal-none a.s.now (beside a.t.now).names a.u.frame (part a.s.now a.a a.b) c.in_err-i.ensures a.u.depth c.if-u-eq0.false refl)
 
 pub returns : goal.returns
-returns c = formal-some c.args.s.now (beside c.args.t.now).names c.args.u.frame (part c.args.s.now c.args.a c.args.b) c.index-i.result c.index-i.ensures c.args.u.depth c.place_at.result c.if-u-eq0.false c.if-i.false (omega arith) c.place_at.ensures.0 c.place_at.ensures.1
+returns c = let a = c.args in formal-some a.s.now (beside a.t.now).names a.u.frame (part a.s.now a.a a.b) c.in_ok-i.ensures a.u.depth c.in_ok-i.i c.place_at.result c.if-u-eq0.false refl (rw (c.from.ensures, c.from-2.ensures) at c.place_at.ensures.0)

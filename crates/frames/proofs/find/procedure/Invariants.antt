@@ -3,12 +3,8 @@
 use Rattle.frames.specs.Row.{row_in}
 use Rattle.parts.specs.Beside.{beside}
 use Rattle.words.specs.Runs.{part}
-use Prim.Native.Nat.{◌≤◌}
 use mathlib.Core.Path.{◌≡◌}
 use Rattle.frames.proofs.find.procedure.Given as goal
 
 abbrev pub invariant-loop-n : goal.invariant-loop-n
-invariant-loop-n l = (l.n ≤ l.seen) × (row_in l.s (beside l.t).names l.n (part l.s l.a l.b) ≡ row_in l.s (beside l.t).names l.seen (part l.s l.a l.b))
-
-abbrev pub decreases-loop-n : goal.decreases-loop-n
-decreases-loop-n l = l.n
+invariant-loop-n l = row_in l.s (beside l.t).names l.n (part l.s l.a l.b) ≡ row_in l.s (beside l.t).names l.seen (part l.s l.a l.b)

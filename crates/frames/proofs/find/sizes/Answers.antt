@@ -6,4 +6,4 @@ use Rattle.words.specs.Runs.{part}
 use Rattle.frames.proofs.find.sizes.Goals as goal
 
 pub returns : goal.returns
-returns c = sizes_of_lem c.args.s.now (beside c.args.t.now).names c.args.u (part c.args.s.now c.args.a c.args.b) c.index-i.result (record { parts = c.parts_at.result; levels = c.levels_at.result }) c.index-i.ensures c.parts_at.ensures c.levels_at.ensures
+returns c = let a = c.args in sizes_of_lem a.s.now (beside a.t.now).names a.u (part a.s.now a.a a.b) c.index.result c.unwrap_or-i.result (record { parts = c.parts_at.result; levels = c.levels_at.result }) c.index.ensures c.unwrap_or-i.ensures (rw (c.from.ensures, c.from-2.ensures) at c.parts_at.ensures) (rw (c.from.ensures, c.from-2.ensures) at c.levels_at.ensures)

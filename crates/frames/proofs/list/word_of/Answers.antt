@@ -7,7 +7,7 @@ pub returns-in-Found : goal.returns-in-Found
 returns-in-Found c = lists-found c.next_word.ensures c.in-Found.is
 
 pub returns-in-Stops : goal.returns-in-Stops
-returns-in-Stops c = lists-stop c.next_word.ensures c.in-Stops.is
+returns-in-Stops c = rw c.no_word.ensures (lists-stop c.next_word.ensures c.in-Stops.is)
 
 pub returns-in-Over : goal.returns-in-Over
-returns-in-Over c = lists_over c.next_word.ensures c.in-Over.is
+returns-in-Over c = rw c.no_word-in-Over.ensures (lists_over c.next_word.ensures c.in-Over.is)

@@ -8,6 +8,3 @@ use Rattle.frames.proofs.put.clean.Given as goal
 
 abbrev pub invariant-loop-i : goal.invariant-loop-i
 invariant-loop-i l = zero_from (beside l.t).names l.i (l.to - l.i) ≡ zero_from (beside l.t).names l.from (l.to - l.from)
-
-abbrev pub decreases-loop-i : goal.decreases-loop-i
-decreases-loop-i l = l.to - l.i

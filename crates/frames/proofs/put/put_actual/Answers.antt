@@ -11,4 +11,4 @@ pub returns : goal.returns
 unfolding actual_in
 returns c = puts_on (λ (z : List ℕ). set z (c.args.top + 4 + c.args.i * 4 + 3) c.args.levels)
     (puts_on (λ (z : List ℕ). set z (c.args.top + 4 + c.args.i * 4 + 2) (c.args.parts / 8 % 256))
-    (puts_on (λ (z : List ℕ). set z (c.args.top + 4 + c.args.i * 4 + 1) (c.args.place / 256 % 32 + c.args.parts % 8 * 32)) c.put_byte.ensures c.put_byte-2.ensures) c.put_byte-3.ensures) c.put_byte-4.ensures
+    (puts_on (λ (z : List ℕ). set z (c.args.top + 4 + c.args.i * 4 + 1) (c.args.place / 256 % 32 + c.args.parts % 8 * 32)) (rw (c.from.ensures, c.from-2.ensures) at c.put_byte.ensures) (rw (c.from.ensures, c.from-2.ensures) at c.put_byte-2.ensures)) (rw (c.from.ensures, c.from-2.ensures) at c.put_byte-3.ensures)) (rw (c.from.ensures, c.from-2.ensures) at c.put_byte-4.ensures)

@@ -8,4 +8,4 @@ use Rattle.frames.proofs.put.put_frame.Goals as goal
 
 pub returns : goal.returns
 unfolding frame_in
-returns c = puts_on (λ (z : List ℕ). half_in z (c.args.top + 2) c.args.p) c.put_half.ensures c.put_half-2.ensures
+returns c = puts_on (λ (z : List ℕ). half_in z (c.args.top + 2) c.args.p) (rw c.from-o.ensures at c.put_half.ensures) (rw c.from-o.ensures at c.put_half-2.ensures)

@@ -8,8 +8,8 @@ use Rattle.wides.proofs.calls.over.Goals as goal
 pub loop-word-init : goal.loop-word-init
 loop-word-init c = passing-start c.requires
 
-pub returns-then-word-gt62 : goal.returns-then-word-gt62
-returns-then-word-gt62 c = passing_over c.loop-word.invariant c.if-word-gt62.true
+pub returns-then-word-gt-ENDCOMPRESS : goal.returns-then-word-gt-ENDCOMPRESS
+returns-then-word-gt-ENDCOMPRESS c = passing_over c.loop-word.invariant c.if-word-gt-ENDCOMPRESS.true
 
 pub word_from-v-requires : goal.word_from-v-requires
 word_from-v-requires c = (c.loop-word.invariant.near.short, c.loop-word.invariant.near.inside)
@@ -30,9 +30,9 @@ within-deep-requires c =
 pub loop-word-smaller : goal.loop-word-smaller
 loop-word-smaller c =
     let g = c.loop-word.invariant in
-    omega (arith, further c.if-word-gt62.false g.near c.word_from-v.ensures, g.near.on, g.near.inside, c.word_from-v.ensures.near.on, c.word_from-v.ensures.near.inside)
+    omega (arith, further c.if-word-gt-ENDCOMPRESS.false g.near c.word_from-v.ensures, g.near.on, g.near.inside, c.word_from-v.ensures.near.on, c.word_from-v.ensures.near.inside)
 
 pub loop-word-preserved : goal.loop-word-preserved
 loop-word-preserved c =
     rw (c.begun-count.ensures, c.within-deep.ensures)
-    (passing_on c.loop-word.invariant c.if-word-gt62.false c.word_from-v.ensures (sym c.closes.ensures ∙ c.if-closes.false))
+    (passing_on c.loop-word.invariant c.if-word-gt-ENDCOMPRESS.false c.word_from-v.ensures (sym c.closes.ensures ∙ c.if-closes.false))

@@ -1,9 +1,0 @@
--- `frames::area::half_at` meets its contract.
--- Assumes nothing.
-use Rattle.frames.specs.Layout.{half_at}
-use mathlib.Core.Path.{refl}
-use Rattle.frames.proofs.area.half_at.Goals as goal
-
-pub returns : goal.returns
-unfolding half_at
-returns c = rw (c.wide.ensures.0, c.byte_at.ensures, c.wide-2.ensures.0, c.byte_at-2.ensures) refl
