@@ -1,13 +1,12 @@
 // What a name stands for, by the entries.
 ghost use Rattle.std.specs.Prelude.{◌≡◌, ◌+◌, ◌*◌, ◌<◌, ◌≤◌, true, false, not, length};
-ghost use Rattle.std.proofs.Math.Option.{some};
 ghost use Rattle.words.specs.Runs.{part};
 ghost use Rattle.language.specs.Scan.{next_word};
 ghost use Rattle.meaning.specs.Names.{missing};
 ghost use Rattle.names.specs.Look.{value_of, width_at, place_at, end_at, entry_at, look_in};
-ghost use Rattle.names.specs.Came.{variable_of};
+ghost use Rattle.names.specs.Came.{meant, variable_of};
 
-use crate::Found;
+use crate::Variable;
 use words::Next;
 
 // A byte as an index.
@@ -68,26 +67,23 @@ fn width_at(s: &[u8], from: usize) -> u16
 }
 
 // What entry i stands for.
-fn entry_at(s: &[u8], t: &[u8], i: usize) -> Found
+fn entry_at(s: &[u8], t: &[u8], i: usize) -> Variable
     requires { i * 4 + 4 ≤ length t.now }
-    ensures { variable_of result ≡ some (entry_at s.now t.now i) }
+    ensures { meant result ≡ entry_at s.now t.now i }
 {
-    let k = t[i * 4 + 1] / 32;
     let n = t[i * 4 + 3];
-    if k == 0 {
-        return Found::Input(n);
-    }
-    if k == 3 {
-        return Found::Integer {
+    match t[i * 4 + 1] / 32 {
+        0 => Variable::Input(n),
+        3 => Variable::Integer {
             low: n,
             width: width_at(s, end_at(t, i)),
-        };
+        },
+        _ => Variable::Boolean(n),
     }
-    Found::Boolean(n)
 }
 
 // What the name from a to b stands for, among so many entries.
-pub fn find(s: &[u8], t: &[u8], names: u16, a: u16, b: u16) -> Found
+pub fn find(s: &[u8], t: &[u8], names: u16, a: u16, b: u16) -> Option<Variable>
     requires { names * 4 ≤ length t.now }
     ensures { variable_of result ≡ look_in s.now t.now names (part s.now a b) }
 {
@@ -97,21 +93,16 @@ pub fn find(s: &[u8], t: &[u8], names: u16, a: u16, b: u16) -> Found
         let p = place_at(t, i);
         let q = end_at(t, i);
         if words::same_name(s, p, q, a as usize, b as usize) {
-            return entry_at(s, t, i);
+            return Some(entry_at(s, t, i));
         }
         i += 1;
     }
-    Found::Nothing
+    None
 }
 
 // Whether a name stands for anything.
-pub fn known(v: Found) -> bool
+pub fn known(v: Option<Variable>) -> bool
     ensures { result ≡ not (missing (variable_of v)) }
 {
-    match v {
-        Found::Nothing => false,
-        Found::Input(i) => true,
-        Found::Boolean(j) => true,
-        Found::Integer { low, width } => true,
-    }
+    v.is_some()
 }
