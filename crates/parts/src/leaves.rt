@@ -15,7 +15,7 @@ pub fn put_half(t: &mut [u8], o: usize, x: u16)
     t[o..o + 2].copy_from_slice(&x.to_le_bytes());
 }
 
-// One part, where it fits.
+// One part, where it fits. What it is is the number of its first byte, as the definition put_part takes it: an enum would be turned back into it here, and nowhere read.
 #[tactic(auto, unfolding(crate::specs::Sum::put_part))]
 fn put_part(t: &mut [u8], i: u16, kind: u8, c: u8, p: u16, a: u16, b: u16)
     ensures { t.new ≡ put_part t.old i kind c p a b }

@@ -5,7 +5,7 @@ ghost use Rattle.parts.specs.Sum as spec;
 
 use crate::Notes;
 
-// The first of two places.
+// The first of two places. It stands for source, which folds two notes by it.
 pub fn least(a: u16, b: u16) -> u16
     ensures { result ≡ Prim.Native.Nat.min a b }
 {

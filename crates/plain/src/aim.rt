@@ -4,7 +4,7 @@ ghost use Rattle.plain.specs.Aim.{name_aim, whole_aim, part_aim};
 
 use frames::Meant;
 
-// The variable with the name from a to b, or a bit of it; a name without bytes is unknown.
+// The variable with the name from a to b, or a bit of it; a name without bytes is unknown. No Option for the name: what stands for none is looked up like the others, and noted as unknown (P8).
 #[derive(Clone, Copy)]
 pub struct Aim {
     pub a: u16,
