@@ -152,6 +152,9 @@ module _ {look : List ℕ → Option Variable} {to : ℕ → ℕ} {B : List (Bou
   pub operand_plain : {u : List ℕ} {r : Got} {row : ℕ} → IsHow (get_elem? binding n) Operand → row ≡ operand_row h.kind → PlainCame look to B s row h m t u r → Came look to B s n k h m t u r
   operand_plain how e c = came c.kept (tiers.operand_bare how e (bare c))
 
+  pub operand_none : {r : Got} {row : ℕ} → IsHow (get_elem? binding n) Operand → row ≡ operand_row h.kind → row ≡ 6 → Near s h → r.word ≡ h → Came look to B s n k h m t t r
+  operand_none how e six near w = came refl (tiers.operand_none how e six near w)
+
   pub operand-deep : {r : Got} {row : ℕ} → IsHow (get_elem? binding n) Operand → row ≡ operand_row h.kind → ¬ (row < 4) → k ≡ 0 → Near s h → r.word ≡ h → Came look to B s n k h m t t r
   operand-deep how e large none_left near w = came refl (tiers.operand-deep how e large none_left near w)
 

@@ -11,9 +11,12 @@ ghost use Rattle.exprs.specs.Came.{Ready, Named, CameUnder, PlainUnder};
 use frames::{Under, find};
 use hand::Here;
 use parts::{Got, Notes, leaves, marks};
-use tiers::How;
+use tiers::{How, OperandRow};
+use words::kinds;
 
 mod single;
+
+// What each reader is lent and given (s, count, t, u) stands in no struct: t is lent on from call to call, and the contracts name s.now, t.old and t.new each by itself.
 
 // An expression of the operators that bind at `tier` or higher, from the word `first` on, with so many levels left.
 #[cycle(between_expr_name_operand)]
@@ -42,14 +45,10 @@ pub fn expr(
             let p = frames::told(u, first.place);
             let n = marks::counted(notes, p);
             let g = expr(s, count, t, u, tier, inner, n, levels - 1);
-            return leaves::negated(t, notes, p, g);
+            leaves::negated(t, notes, p, g)
         }
-        How::Between => {
-            return between(s, count, t, u, tier, first, notes, levels);
-        }
-        How::Operand => {
-            return operand(s, count, t, u, tier, first, notes, levels);
-        }
+        How::Between => between(s, count, t, u, tier, first, notes, levels),
+        How::Operand => operand(s, count, t, u, tier, first, notes, levels),
     }
 }
 
@@ -73,7 +72,7 @@ fn between(
     loop {
         let w = left.word;
         let n = left.notes;
-        if tiers::strength_of(w.kind) != tier {
+        if tiers::strength_of(w.kind) != Some(tier) {
             return left;
         }
         let v = hand::word_from(s, w.next);
@@ -100,28 +99,31 @@ fn operand(
     requires { Ready s.now (beside t.old) count tier levels first × IsHow (get_elem? binding tier) Operand }
     ensures { CameUnder s.now (beside t.old).names count u tier levels first notes t.old t.new result }
 {
-    let row = tiers::operand_row(first.kind);
-    if row == 0 {
-        return name(s, count, t, u, first, notes);
+    match tiers::operand_row(first.kind) {
+        None => leaves::nothing(first, notes),
+        Some(OperandRow::Name) => name(s, count, t, u, first, notes),
+        Some(OperandRow::Number) => single::number(s, t, u, first, notes),
+        Some(OperandRow::Truth(value)) => single::truth(s, t, u, value, first, notes),
+        Some(OperandRow::Open) => {
+            if levels == 0 {
+                return leaves::nothing(first, notes);
+            }
+            let second = hand::word_from(s, first.next);
+            let g = expr(s, count, t, u, 0, second, notes, levels - 1);
+            leaves::behind(hand::word_from(s, g.word.next), g)
+        }
+        Some(OperandRow::Int) => {
+            if levels == 0 {
+                return leaves::nothing(first, notes);
+            }
+            let second = hand::word_from(s, first.next);
+            let third = hand::word_from(s, second.next);
+            let p = frames::told(u, first.place);
+            let n = marks::counted(notes, p);
+            let g = expr(s, count, t, u, 0, third, n, levels - 1);
+            leaves::int_of(t, notes, p, hand::word_from(s, g.word.next), g)
+        }
     }
-    if row < 4 {
-        return single::constant(s, count, t, u, row, first, notes);
-    }
-    if levels == 0 {
-        return leaves::nothing(first, notes);
-    }
-    let second = hand::word_from(s, first.next);
-    if row == 5 {
-        let g = expr(s, count, t, u, 0, second, notes, levels - 1);
-        let c = g.word;
-        return leaves::behind(hand::word_from(s, c.next), g);
-    }
-    let third = hand::word_from(s, second.next);
-    let p = frames::told(u, first.place);
-    let n = marks::counted(notes, p);
-    let g = expr(s, count, t, u, 0, third, n, levels - 1);
-    let c = g.word;
-    leaves::int_of(t, notes, p, hand::word_from(s, c.next), g)
 }
 
 // A name or a bit of it. A formal is read from the text of its actual, as its caller has it.
@@ -131,14 +133,14 @@ fn name(s: &[u8], count: u16, t: &mut [u8], u: Under, first: Here, notes: Notes)
     ensures { PlainUnder s.now (beside t.old).names count u 0 first notes t.old t.new result }
 {
     let after = hand::word_from(s, first.next);
-    if after.kind == 16 {
+    if after.kind == kinds::LEFT {
         return single::bit(s, count, t, u, first, after, notes);
     }
     let Some(q) = find::formal(s, t, u, first.place, first.next) else {
         let v = parts::seen::find(s, t, count, first.place, first.next);
         return leaves::named(t, notes, frames::told(u, first.place), v, after);
     };
-    if q as usize > s.len() {
+    if usize::from(q) > s.len() {
         return leaves::nothing(after, notes);
     }
     let around = find::caller(t, u);

@@ -1,5 +1,5 @@
 // An operand with no expression inside.
-ghost use Rattle.std.specs.Prelude.{◌≡◌, [], ◌<◌, ◌≤◌, ◌+◌, ◌*◌, length};
+ghost use Rattle.std.specs.Prelude.{◌≡◌, [], ℕ, ◌≤◌, ◌+◌, ◌*◌, length, cond};
 ghost use Rattle.hand.specs.Along.{Near, Begins};
 ghost use Rattle.names.specs.Look.{look_in};
 ghost use Rattle.parts.specs.Beside.{beside};
@@ -10,20 +10,28 @@ use frames::{Meant, Under, follow};
 use hand::Here;
 use parts::{Got, Notes, leaves};
 
-// A number, `true` or `false`: the rows 1 to 3 of an operand.
-pub fn constant(s: &[u8], count: u16, t: &mut [u8], u: Under, row: u8, h: Here, n: Notes) -> Got
-    requires { Near s.now h × (0 < row) × (row < 4) }
-    ensures { PlainUnder s.now (beside t.old).names count u row h n t.old t.new result }
+// A number.
+pub fn number(s: &[u8], t: &mut [u8], u: Under, h: Here, n: Notes) -> Got
+    requires { Near s.now h }
+    ensures { (count : ℕ) → PlainUnder s.now (beside t.old).names count u 1 h n t.old t.new result }
 {
     let after = hand::word_from(s, h.next);
     let p = frames::told(u, h.place);
-    if row == 1 {
-        return leaves::leaf(t, n, 0, h.value, p, false, h.value as u32, after);
+    leaves::leaf(t, n, 0, h.value, p, false, u32::from(h.value), after)
+}
+
+// `true` or `false`.
+pub fn truth(s: &[u8], t: &mut [u8], u: Under, value: bool, h: Here, n: Notes) -> Got
+    requires { Near s.now h }
+    ensures { (count : ℕ) → PlainUnder s.now (beside t.old).names count u (cond value 2 3) h n t.old t.new result }
+{
+    let after = hand::word_from(s, h.next);
+    let p = frames::told(u, h.place);
+    if value {
+        leaves::leaf(t, n, 2, 0, p, true, 0, after)
+    } else {
+        leaves::leaf(t, n, 1, 0, p, true, 0, after)
     }
-    if row == 2 {
-        return leaves::leaf(t, n, 2, 0, p, true, 0, after);
-    }
-    leaves::leaf(t, n, 1, 0, p, true, 0, after)
 }
 
 // P8: a name that none can have.
@@ -47,13 +55,8 @@ pub fn bit(s: &[u8], count: u16, t: &mut [u8], u: Under, h: Here, after: Here, n
     match follow::meant(s, t, u, h.place, h.next) {
         Meant::Name { a, b } => {
             let v = parts::seen::find(s, t, count, a, b);
-            return leaves::indexed(t, n, frames::told(u, a), v, number.value, last);
+            leaves::indexed(t, n, frames::told(u, a), v, number.value, last)
         }
-        Meant::Bit { a, b, j } => {
-            return unknown(s, count, t, n, p, last);
-        }
-        Meant::Neither => {
-            return unknown(s, count, t, n, p, last);
-        }
+        Meant::Bit { .. } | Meant::Neither => unknown(s, count, t, n, p, last),
     }
 }

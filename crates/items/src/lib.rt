@@ -11,7 +11,7 @@ use parts::Notes;
 pub mod noted;
 pub mod targets;
 
-// The notes, the least place of fault 8 (65,535: none), the statements and the nodes so far, and the activities.
+// The notes, the least place of fault 8 (65,535: none), the statements and the nodes so far, and the activities. No Option: a place of none is above every other, so that the least of two is `min`.
 #[derive(Clone, Copy)]
 pub struct Marks {
     pub notes: Notes,
@@ -49,9 +49,6 @@ pub fn inside(u: Under, p: u16) -> Under
 {
     Under {
         at: frames::told(u, p),
-        frame: u.frame,
-        depth: u.depth,
-        seen: u.seen,
-        top: u.top,
+        ..u
     }
 }

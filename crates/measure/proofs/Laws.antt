@@ -2,6 +2,7 @@
 -- Assumes nothing.
 use mathlib.Core.Bool.{true, false}
 use mathlib.Core.Path.{◌≡◌, refl, sym, ◌∙◌, ap, subst}
+use mathlib.Core.Logic.{◌⊎◌, inl, inr}
 use mathlib.Core.List.{List, ◌∷◌}
 use mathlib.Core.Option.{Option}
 use Prim.Native.Nat.{ℕ, zero, suc, ◌+◌, ◌-◌, ◌<◌, min}
@@ -23,9 +24,11 @@ use Rattle.descent_law.proofs.Statements.{target_told, else_told, after-name-tol
 use Rattle.hand.specs.declared.Here.{Here}
 use Rattle.hand.specs.Along.{Stands, Near, Begins}
 use Rattle.tiers.specs.Comes.{Comes}
-use Rattle.tiers.specs.Choose.{statement_row, is_plain}
+use Rattle.tiers.specs.declared.PlainRow.{PlainRow}
+use Rattle.tiers.specs.declared.PlainRow.TheVariants as plain
+use Rattle.tiers.specs.Choose.{statement_row, plain_number, is_plain}
 use Rattle.tiers.proofs.Laws.{first_is}
-use Rattle.tiers.proofs.Rows.{row_told, row_six, row-none, else_only, index_only, call_only, one_there, none_there}
+use Rattle.tiers.proofs.Rows.{row_told, row-none, else_only, index_only, call_only, one_there, none_there}
 use Rattle.own_law.proofs.Early.{each_stay, closed_stays, opened_stays, begun_stays}
 use Rattle.tally.proofs.Steps.{over_on}
 use Rattle.tally.proofs.Ends.{end-state}
@@ -319,8 +322,14 @@ module _ {s z : List ℕ} {u : Under} {k n : ℕ} {h : Here} {m : Tally} {row : 
   pub one_none : {t : List ℕ} {r : Counted} → Near s h → is_plain row ≡ false → ¬ (row ≡ 5) → k ≡ 0 → r ≡ counted h m → One s z u k n h m t t r
   one_none near p o q made = one (on_made made (on_here near)) (λ S ws st e v rest y. row-none e k ws v rest row q p o y)
 
-  pub one_if : {t t₁ : List ℕ} {r : Counted} → is_plain row ≡ false → ¬ (row ≡ 5) → ¬ (row ≡ 7) → ¬ (row ≡ 8) → ¬ (row ≡ 10) → ¬ (row ≡ 12) → RowCame s z u k n 6 h m t t₁ r → One s z u k n h m t t₁ r
-  one_if p n₅ n₇ n₈ n₁₀ n₁₂ came = one came.on (λ S ws st e v rest y. came.told S ws st e v rest (row_six e k ws v rest row p n₅ n₇ n₈ n₁₀ n₁₂ y))
+  -- no statement begins with such a word
+  pub one_other : {t : List ℕ} {r : Counted} → row ≡ 13 → Near s h → r ≡ counted h m → One s z u k n h m t t r
+  one_other last near made = one (on_made made (on_here near)) (λ S ws st e v rest y. absurd (rw last at y))
+
+pub change_rows : (p : PlainRow) → (p ≡ plain.Raise) ⊎ ((p ≡ plain.Lower) ⊎ (p ≡ plain.Invert)) → ¬ (plain_number p ≡ 0) × ¬ (plain_number p ≡ 1) × ¬ (4 < plain_number p)
+change_rows p (inl e) = rw e (λ z. omega arith, λ z. omega arith, λ z. omega arith)
+change_rows p (inr (inl e)) = rw e (λ z. omega arith, λ z. omega arith, λ z. omega arith)
+change_rows p (inr (inr e)) = rw e (λ z. omega arith, λ z. omega arith, λ z. omega arith)
 
 pub row_bare : {s z : List ℕ} {u : Under} {k n row : ℕ} {h : Here} {m : Tally} {t : List ℕ} {r : Counted} → BareCame s z u k n row h m r → RowCame s z u k n row h m t t r
 row_bare came = record { on = record { near = came.near; later = came.later; tree = refl; kept = refl }; told = came.told }

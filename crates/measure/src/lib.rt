@@ -9,6 +9,7 @@ ghost use Rattle.measure.specs.Counted.{Ready, RowCame, One, All, CaseCame, Case
 use frames::{Under, put};
 use hand::Here;
 use tally::Tally;
+use tiers::{AroundRow, StatementRow};
 
 mod single;
 
@@ -25,29 +26,23 @@ fn stmt(s: &[u8], t: &mut [u8], u: Under, first: Here, m: Tally, levels: u8, aro
     requires { Ready s.now levels first }
     ensures { One s.now (beside t.old).names u levels around first m t.old t.new result }
 {
-    let row = tiers::statement_row(first.kind);
-    if tiers::is_plain(row) {
-        return single::plain(s, row, first, m, around);
+    match tiers::statement_row(first.kind) {
+        None => single::made(first, m),
+        Some(StatementRow::Plain(row)) => single::plain(s, row, first, m, around),
+        Some(StatementRow::Name) => named(s, t, u, first, m, levels, around),
+        Some(StatementRow::Around(row)) => {
+            if levels == 0 {
+                return single::made(first, m);
+            }
+            match row {
+                AroundRow::If => choice(s, t, u, first, m, levels, around),
+                AroundRow::While => while_loop(s, t, u, first, m, levels, around),
+                AroundRow::Loop => loop_always(s, t, u, first, m, levels, around),
+                AroundRow::Switch => switch(s, t, u, first, m, levels, around),
+                AroundRow::Parallel => parallel(s, t, u, first, m, levels, around),
+            }
+        }
     }
-    if row == 5 {
-        return named(s, t, u, first, m, levels, around);
-    }
-    if levels == 0 {
-        return single::made(first, m);
-    }
-    if row == 7 {
-        return while_loop(s, t, u, first, m, levels, around);
-    }
-    if row == 8 {
-        return loop_always(s, t, u, first, m, levels, around);
-    }
-    if row == 10 {
-        return switch(s, t, u, first, m, levels, around);
-    }
-    if row == 12 {
-        return parallel(s, t, u, first, m, levels, around);
-    }
-    choice(s, t, u, first, m, levels, around)
 }
 
 // A statement that begins with a name: a call, or an assignment.
@@ -233,7 +228,7 @@ fn list(s: &[u8], t: &mut [u8], u: Under, first: Here, m: Tally, levels: u8, aro
             return at;
         }
         let v = hand::word_from(s, w.next);
-        if tiers::statement_row(v.kind) == 13 {
+        if tiers::statement_row(v.kind).is_none() {
             return single::made(v, k);
         }
         at = stmt(s, t, u, v, k, levels, around);

@@ -1,7 +1,7 @@
 // Tests, and statements with none inside.
-ghost use Rattle.std.specs.Prelude.{◌≡◌, true, List, ℕ, ◌≤◌};
+ghost use Rattle.std.specs.Prelude.{◌≡◌, List, ℕ, ◌≤◌};
 ghost use Rattle.hand.specs.Along.{Near, Begins};
-ghost use Rattle.tiers.specs.Choose.{is_plain};
+ghost use Rattle.tiers.specs.Choose.{plain_number};
 ghost use Rattle.frames.specs.declared.Under.{Under};
 ghost use Rattle.parts.specs.Beside.{beside};
 ghost use Rattle.measure.specs.Counted.{Ready, TestCame, BareCame, PastChange};
@@ -10,6 +10,7 @@ use crate::Counted;
 use frames::Under;
 use hand::Here;
 use tally::Tally;
+use tiers::PlainRow;
 
 pub fn made(word: Here, tally: Tally) -> Counted
     ensures { result ≡ record { word = word; tally = tally } }
@@ -68,24 +69,23 @@ fn changed(s: &[u8], first: Here) -> Here
 }
 
 // `skip`, `delay`, `raise`, `lower`, `invert`, `exit`, `break`.
-pub fn plain(s: &[u8], row: u8, first: Here, m: Tally, around: u8) -> Counted
-    requires { Near s.now first × (is_plain row ≡ true) }
-    ensures { (z : List ℕ) (u : Under) (k : ℕ) → BareCame s.now z u k around row first m result }
+pub fn plain(s: &[u8], row: PlainRow, first: Here, m: Tally, around: u8) -> Counted
+    requires { Near s.now first }
+    ensures { (z : List ℕ) (u : Under) (k : ℕ) → BareCame s.now z u k around (plain_number row) first m result }
 {
     let k = tally::begun(m);
     let second = hand::word_from(s, first.next);
-    if row == 1 {
-        return made(
+    match row {
+        PlainRow::Skip => made(second, k),
+        PlainRow::Exit => made(second, k),
+        PlainRow::Break => made(second, k),
+        PlainRow::Delay => made(
             hand::word_from(s, second.next),
             tally::marked(k, second.value > 255),
-        );
+        ),
+        PlainRow::Raise | PlainRow::Lower | PlainRow::Invert => {
+            let inner = sizes::counts::deeper(around);
+            made(changed(s, first), tally::deep(k, inner, 0))
+        }
     }
-    if row == 0 {
-        return made(second, k);
-    }
-    if row > 4 {
-        return made(second, k);
-    }
-    let inner = sizes::counts::deeper(around);
-    made(changed(s, first), tally::deep(k, inner, 0))
 }

@@ -1,13 +1,12 @@
 // What a name stands for, by the entries.
 ghost use Rattle.std.specs.Prelude.{◌≡◌, ◌+◌, ◌*◌, ◌<◌, ◌≤◌, true, false, not, length};
-ghost use Rattle.std.proofs.Math.Option.{some};
 ghost use Rattle.words.specs.Runs.{part};
 ghost use Rattle.language.specs.Scan.{next_word};
 ghost use Rattle.meaning.specs.Names.{missing};
 ghost use Rattle.names.specs.Look.{value_of, width_at, place_at, end_at, entry_at, look_in};
-ghost use Rattle.names.specs.Came.{variable_of};
+ghost use Rattle.names.specs.Came.{meant, variable_of};
 
-use crate::Found;
+use crate::Variable;
 use words::Next;
 
 // The place of the name of entry i.
@@ -49,23 +48,23 @@ fn width_at(s: &[u8], from: usize) -> u16
 
 // What entry i stands for.
 #[tactic(auto, unfolding(crate::specs::Look::entry_at, crate::specs::Look::variable_by, crate::specs::Look::kind_at))]
-fn entry_at(s: &[u8], t: &[u8], i: usize) -> Found
+fn entry_at(s: &[u8], t: &[u8], i: usize) -> Variable
     requires { i * 4 + 4 ≤ length t.now }
-    ensures { variable_of result ≡ some (entry_at s.now t.now i) }
+    ensures { meant result ≡ entry_at s.now t.now i }
 {
     let n = t[i * 4 + 3];
     match t[i * 4 + 1] / 32 {
-        0 => Found::Input(n),
-        3 => Found::Integer {
+        0 => Variable::Input(n),
+        3 => Variable::Integer {
             low: n,
             width: width_at(s, end_at(t, i)),
         },
-        _ => Found::Boolean(n),
+        _ => Variable::Boolean(n),
     }
 }
 
 // What the name from a to b stands for, among so many entries.
-pub fn find(s: &[u8], t: &[u8], names: u16, a: u16, b: u16) -> Found
+pub fn find(s: &[u8], t: &[u8], names: u16, a: u16, b: u16) -> Option<Variable>
     requires { names * 4 ≤ length t.now }
     ensures { variable_of result ≡ look_in s.now t.now names (part s.now a b) }
 {
@@ -73,15 +72,15 @@ pub fn find(s: &[u8], t: &[u8], names: u16, a: u16, b: u16) -> Found
         let p = place_at(t, i);
         let q = end_at(t, i);
         if words::same_name(s, p, q, usize::from(a), usize::from(b)) {
-            return entry_at(s, t, i);
+            return Some(entry_at(s, t, i));
         }
     }
-    Found::Nothing
+    None
 }
 
 // Whether a name stands for anything.
-pub fn known(v: Found) -> bool
+pub fn known(v: Option<Variable>) -> bool
     ensures { result ≡ not (missing (variable_of v)) }
 {
-    !matches!(v, Found::Nothing)
+    v.is_some()
 }

@@ -3,9 +3,7 @@
 use mathlib.Core.Bool.{Bool, true, false, cond}
 use mathlib.Core.Path.{◌≡◌, refl}
 use mathlib.Core.List.{List}
-use Prim.Native.Nat.{ℕ, ◌+◌, ◌*◌, ◌/◌, ◌%◌, ◌≤◌, ◌<◌}
-use native.Mathlib.Omega.{arith}
-use native.Mathlib.Nat.{mul-le-mul_left}
+use Prim.Native.Nat.{ℕ, ◌+◌, ◌*◌, ◌/◌, ◌%◌}
 use lib.Dec.{ltb, leb}
 use lib.ListN.{length, set, length-set}
 use Rattle.parts.specs.Sum.{put_part, part_at}
@@ -21,6 +19,3 @@ put-length t i k c p a b = go (ltb i 1024) (leb (part_at i + 8) (length t))
     go true true = simp length-set
     go true false = refl
     go false y = refl
-
-pub mul-fits : (a b : ℕ) → a < 4294967296 → b < 4294967296 → a * b < 18446744073709551616
-mul-fits a b h g = let k : a * b ≤ a * 4294967296 = mul-le-mul_left a (omega arith) in omega arith

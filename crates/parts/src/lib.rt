@@ -9,7 +9,7 @@ pub mod seen;
 
 use hand::Here;
 
-// The least place of each fault so far (65,535: none), and how many parts there are.
+// The least place of each fault so far (65,535: none), and how many parts there are. No Option: a place of none is above every other, so that the least of two is `min`.
 #[derive(Clone, Copy)]
 pub struct Notes {
     pub six: u16,

@@ -5,82 +5,72 @@ ghost use Rattle.parts.specs.Sum as spec;
 
 use crate::Notes;
 
-// The first of two places.
+// The first of two places. It stands for source, which folds two notes by it.
 pub fn least(a: u16, b: u16) -> u16
     ensures { result ≡ Prim.Native.Nat.min a b }
 {
-    if a <= b {
-        return a;
-    }
-    b
+    a.min(b)
 }
 
 // One part more, or one too many.
+#[tactic(auto, unfolding(crate::specs::Sum::counted))]
 pub fn counted(n: Notes, p: u16) -> Notes
     ensures { result ≡ spec.counted n p }
 {
     if n.parts < 1024 {
-        return Notes {
-            six: n.six,
-            seven: n.seven,
-            nine: n.nine,
-            ten: n.ten,
+        Notes {
             parts: n.parts + 1,
-        };
-    }
-    Notes {
-        six: n.six,
-        seven: n.seven,
-        nine: least(n.nine, p),
-        ten: n.ten,
-        parts: n.parts,
+            ..n
+        }
+    } else {
+        Notes {
+            nine: n.nine.min(p),
+            ..n
+        }
     }
 }
 
-// A fault 6 at a place, where there is one.
+// A fault 6 at a place, where there is one. No form takes a field's name, so that the three that follow are each an expression of their own.
+#[tactic(auto, unfolding(crate::specs::Sum::at_six))]
 pub fn at_six(n: Notes, yes: bool, p: u16) -> Notes
     ensures { result ≡ spec.at_six n yes p }
 {
     if yes {
-        return Notes {
-            six: least(n.six, p),
-            seven: n.seven,
-            nine: n.nine,
-            ten: n.ten,
-            parts: n.parts,
-        };
+        Notes {
+            six: n.six.min(p),
+            ..n
+        }
+    } else {
+        n
     }
-    n
 }
 
 // .. a fault 7.
+#[tactic(auto, unfolding(crate::specs::Sum::at_seven))]
 pub fn at_seven(n: Notes, yes: bool, p: u16) -> Notes
     ensures { result ≡ spec.at_seven n yes p }
 {
     if yes {
-        return Notes {
-            six: n.six,
-            seven: least(n.seven, p),
-            nine: n.nine,
-            ten: n.ten,
-            parts: n.parts,
-        };
+        Notes {
+            seven: n.seven.min(p),
+            ..n
+        }
+    } else {
+        n
     }
-    n
 }
 
 // .. a fault 10.
+#[tactic(auto, unfolding(crate::specs::Sum::at_ten))]
 pub fn at_ten(n: Notes, yes: bool, p: u16) -> Notes
     ensures { result ≡ spec.at_ten n yes p }
 {
     if yes {
-        return Notes {
-            six: n.six,
-            seven: n.seven,
-            nine: n.nine,
-            ten: least(n.ten, p),
-            parts: n.parts,
-        };
+        Notes {
+            ten: n.ten.min(p),
+            ..n
+        }
+    } else {
+        n
     }
-    n
 }

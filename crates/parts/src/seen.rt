@@ -5,10 +5,10 @@ ghost use Rattle.names.specs.Look.{look_in};
 ghost use Rattle.names.specs.Came.{variable_of};
 ghost use Rattle.parts.specs.Beside.{beside};
 
-use names::Found;
+use names::Variable;
 
 // By the entries from a place on.
-fn behind(s: &[u8], t: &[u8], at: usize, count: u16, a: u16, b: u16) -> Found
+fn behind(s: &[u8], t: &[u8], at: usize, count: u16, a: u16, b: u16) -> Option<Variable>
     requires { at + count * 4 ≤ length t.now }
     ensures { variable_of result ≡ look_in s.now (drop at t.now) count (part s.now a b) }
 {
@@ -16,7 +16,8 @@ fn behind(s: &[u8], t: &[u8], at: usize, count: u16, a: u16, b: u16) -> Found
 }
 
 // What the name from a to b stands for, among so many.
-pub fn find(s: &[u8], t: &[u8], count: u16, a: u16, b: u16) -> Found
+#[tactic(auto, unfolding(crate::specs::Beside::beside))]
+pub fn find(s: &[u8], t: &[u8], count: u16, a: u16, b: u16) -> Option<Variable>
     requires { 16384 + count * 4 ≤ length t.now }
     ensures { variable_of result ≡ look_in s.now (beside t.now).names count (part s.now a b) }
 {

@@ -1,15 +1,11 @@
 -- The laws of tests and of statements with none inside: one for each way on.
 -- Assumes nothing.
-use mathlib.Core.Bool.{Bool, true, false, cond}
+use mathlib.Core.Bool.{Bool}
 use mathlib.Core.Path.{◌≡◌, refl, sym, ◌∙◌, ap, subst}
 use mathlib.Core.List.{List, ◌∷◌}
 use mathlib.Core.Option.{Option}
 use Prim.Native.Nat.{ℕ, zero, suc, ◌≤◌, ◌<◌}
 use native.Mathlib.Omega.{arith}
-use native.Mathlib.Decide.{dec_lt}
-use lib.Dec.{eqb, ltb}
-use borrow.Author.Tests.{ne_eqb, le-ltb}
-use Rattle.ll1.proofs.Sets.{clash}
 use Rattle.meaning.specs.Numbers.{Variable}
 use Rattle.meaning.specs.Kinds.{changeable, has_bit}
 use Rattle.meaning.specs.Tree.{Name, Expr, Change, raise, lower, invert, Target, part}
@@ -38,7 +34,7 @@ use Rattle.frames.specs.declared.Under.{Under}
 use Rattle.frames.specs.declared.Meant.{Meant}
 use Rattle.frames.specs.Meant.{span_name, MeantBy}
 use Rattle.exprs.specs.Came as expression
-use Rattle.tiers.specs.Choose.{is_plain}
+use Rattle.std.specs.Prelude.{Some, None}
 use Rattle.tiers.proofs.Laws.{first_is}
 use Rattle.tiers.proofs.Rows.{index_only, call_only, one_there, none_there}
 use Rattle.items.specs.declared.Marks.{Marks}
@@ -107,15 +103,7 @@ assign-sum look v i low width m₁ m₂ x y o r a c d f = rw (f, c, d, r, a) ref
 
 -- ---- statements
 
--- the rows that are left: `raise`, `lower`, `invert`
-pub plain_rows : {i : ℕ} → is_plain i ≡ true → ¬ (i ≡ 0) → ¬ (i ≡ 1) → ¬ (i ≡ 9) → ¬ (i ≡ 11) → (2 ≤ i) × (i < 5)
-unfolding is_plain
-plain_rows {i} e n₀ n₁ n₉ n₁₁ = go (dec_lt i 5)
-  where
-    go : Dec (i < 5) → (2 ≤ i) × (i < 5)
-    go (yes h) = (omega arith, h)
-    go (no h) = let z : cond (ltb i 5) true (cond (eqb i 9) true (eqb i 11)) ≡ true = e in clash (sym (rw (le-ltb i 5 (omega arith), ne_eqb i 9 n₉, ne_eqb i 11 n₁₁) at z))
-
+-- `raise`, `lower`, `invert`
 change-rows : (f k : ℕ) (ws : List Word) (v : Command) (rest : List Word) (i : ℕ) → 2 ≤ i → i < 5 → StatementRow f k ws v rest i → (c : Change) × (i ≡ change_kind c) × ChangeRow f k ws v rest c
 change-rows f k ws v rest zero a b x = absurd (omega arith)
 change-rows f k ws v rest (suc zero) a b x = absurd (omega arith)
@@ -276,14 +264,14 @@ module _ {s z : List ℕ} {count : ℕ} {under : Under} {k : ℕ} {l b : Bool} {
 -- ---- what is changed
 
 module _ {s z : List ℕ} {count row i p q : ℕ} {g : Aim} {w : Here} {m m₂ : Marks} {t u : List ℕ} {r : Read} {o : Option Variable} {low width : ℕ} (seen : o ≡ look_in s z count (words.part s g.a g.b)) (e₁ : low ≡ number_of o) (e₂ : width ≡ width_of o) where
-  pub changes_bit : g.single ≡ true → m₂ ≡ target_marks m o q (has_bit o g.j) q → Finished i row p low width g.j 0 w m₂ t u r → Changes s z count row i p q g w m t u r
+  pub changes_bit : {j : ℕ} → g.bit ≡ Some j → m₂ ≡ target_marks m o q (has_bit o j) q → Finished i row p low width j 0 w m₂ t u r → Changes s z count row i p q g w m t u r
   unfolding change_at
-  changes_bit one e fin = record { word = fin.word; kept = fin.kept; walks = λ m₀ c f n k. fin.walks ∙ go m₀ c f n k }
+  changes_bit {j} one e fin = record { word = fin.word; kept = fin.kept; walks = λ m₀ c f n k. fin.walks ∙ go m₀ c f n k }
     where
-      go : (m₀ : Marks) (c : Change) → m ≡ begun m₀ p → i ≡ m₀.nodes → row ≡ change_kind c → finished i row p low width g.j 0 (walked m₂ t) ≡ change_at (look_in s z count) (head_at p) c (aimed s q g) (walked m₀ t)
+      go : (m₀ : Marks) (c : Change) → m ≡ begun m₀ p → i ≡ m₀.nodes → row ≡ change_kind c → finished i row p low width j 0 (walked m₂ t) ≡ change_at (look_in s z count) (head_at p) c (aimed s q g) (walked m₀ t)
       go m₀ c f n k = rw (one, e, f, n, k, e₁, e₂, seen) refl
 
-  pub changes_whole : g.single ≡ false → m₂ ≡ target_marks m o q (changeable o) p → Finished i row p low width 0 0 w m₂ t u r → Changes s z count row i p q g w m t u r
+  pub changes_whole : g.bit ≡ None → m₂ ≡ target_marks m o q (changeable o) p → Finished i row p low width 0 0 w m₂ t u r → Changes s z count row i p q g w m t u r
   unfolding change_at
   changes_whole one e fin = record { word = fin.word; kept = fin.kept; walks = λ m₀ c f n k. fin.walks ∙ go m₀ c f n k }
     where

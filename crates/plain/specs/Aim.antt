@@ -1,6 +1,6 @@
 -- Which variable, or which bit of one, a statement changes: by what its name stands for (P5, P8).
 -- Assumes nothing.
-use Rattle.std.specs.Prelude.{true, false, cond, ◌≡◌, List, ℕ}
+use Rattle.std.specs.Prelude.{◌≡◌, List, ℕ, Option as Optional, Some, None}
 use Rattle.meaning.specs.Tree.{Name, Change, Target, whole, part}
 use Rattle.meaning.specs.Base.{head_at}
 use Rattle.words.specs.Runs as words
@@ -19,26 +19,30 @@ abbrev pub name_to : List ℕ → ℕ → Aim → Name
 name_to s p g = record { bytes = words.part s g.a g.b; place = p }
 
 -- a bit of it, or the whole
+abbrev pub target : Name → Optional ℕ → Target Name
+target v None = whole v
+target v (Some j) = part v j
+
 abbrev pub aimed : List ℕ → ℕ → Aim → Target Name
-aimed s p g = cond g.single (part (name_to s p g) g.j) (whole (name_to s p g))
+aimed s p g = target (name_to s p g) g.bit
 
 -- where a name is assigned
 abbrev pub name_aim : Meant → Aim
-name_aim (meant.Name a b) = record { a = a; b = b; single = false; j = 0 }
-name_aim (meant.Bit a b j) = record { a = 0; b = 0; single = false; j = 0 }
-name_aim meant.Neither = record { a = 0; b = 0; single = false; j = 0 }
+name_aim (meant.Name a b) = record { a = a; b = b; bit = None }
+name_aim (meant.Bit a b j) = record { a = 0; b = 0; bit = None }
+name_aim meant.Neither = record { a = 0; b = 0; bit = None }
 
 -- where it is raised, lowered or inverted
 abbrev pub whole_aim : Meant → Aim
-whole_aim (meant.Name a b) = record { a = a; b = b; single = false; j = 0 }
-whole_aim (meant.Bit a b j) = record { a = a; b = b; single = true; j = j }
-whole_aim meant.Neither = record { a = 0; b = 0; single = false; j = 0 }
+whole_aim (meant.Name a b) = record { a = a; b = b; bit = None }
+whole_aim (meant.Bit a b j) = record { a = a; b = b; bit = Some j }
+whole_aim meant.Neither = record { a = 0; b = 0; bit = None }
 
 -- .. or its bit j
 abbrev pub part_aim : Meant → ℕ → Aim
-part_aim (meant.Name a b) j = record { a = a; b = b; single = true; j = j }
-part_aim (meant.Bit a b i) j = record { a = 0; b = 0; single = true; j = j }
-part_aim meant.Neither j = record { a = 0; b = 0; single = true; j = j }
+part_aim (meant.Name a b) j = record { a = a; b = b; bit = Some j }
+part_aim (meant.Bit a b i) j = record { a = 0; b = 0; bit = Some j }
+part_aim meant.Neither j = record { a = 0; b = 0; bit = Some j }
 
 -- a statement at p that changes what it is aimed at, its name told at q: it has begun with the node i
 pub record Changes (s z : List ℕ) (count row i p q : ℕ) (g : Aim) (w : Here) (m : Marks) (t u : List ℕ) (r : Read) : Type 0 where

@@ -4,19 +4,12 @@ ghost use Rattle.plain.specs.Aim.{name_aim, whole_aim, part_aim};
 
 use frames::Meant;
 
-// The variable with the name from a to b, or its bit j; a name without bytes is unknown.
+// The variable with the name from a to b, or a bit of it; a name without bytes is unknown. No Option for the name: what stands for none is looked up like the others, and noted as unknown (P8).
 #[derive(Clone, Copy)]
 pub struct Aim {
     pub a: u16,
     pub b: u16,
-    pub single: bool,
-    pub j: u16,
-}
-
-fn at(a: u16, b: u16, single: bool, j: u16) -> Aim
-    ensures { result ≡ record { a = a; b = b; single = single; j = j } }
-{
-    Aim { a, b, single, j }
+    pub bit: Option<u16>,
 }
 
 // Where a name is assigned.
@@ -24,15 +17,12 @@ pub fn name_of(v: Meant) -> Aim
     ensures { result ≡ name_aim v }
 {
     match v {
-        Meant::Name { a, b } => {
-            return at(a, b, false, 0);
-        }
-        Meant::Bit { a, b, j } => {
-            return at(0, 0, false, 0);
-        }
-        Meant::Neither => {
-            return at(0, 0, false, 0);
-        }
+        Meant::Name { a, b } => Aim { a, b, bit: None },
+        Meant::Bit { .. } | Meant::Neither => Aim {
+            a: 0,
+            b: 0,
+            bit: None,
+        },
     }
 }
 
@@ -41,15 +31,13 @@ pub fn whole_of(v: Meant) -> Aim
     ensures { result ≡ whole_aim v }
 {
     match v {
-        Meant::Name { a, b } => {
-            return at(a, b, false, 0);
-        }
-        Meant::Bit { a, b, j } => {
-            return at(a, b, true, j);
-        }
-        Meant::Neither => {
-            return at(0, 0, false, 0);
-        }
+        Meant::Name { a, b } => Aim { a, b, bit: None },
+        Meant::Bit { a, b, j } => Aim { a, b, bit: Some(j) },
+        Meant::Neither => Aim {
+            a: 0,
+            b: 0,
+            bit: None,
+        },
     }
 }
 
@@ -58,14 +46,11 @@ pub fn part_of(v: Meant, k: u16) -> Aim
     ensures { result ≡ part_aim v k }
 {
     match v {
-        Meant::Name { a, b } => {
-            return at(a, b, true, k);
-        }
-        Meant::Bit { a, b, j } => {
-            return at(0, 0, true, k);
-        }
-        Meant::Neither => {
-            return at(0, 0, true, k);
-        }
+        Meant::Name { a, b } => Aim { a, b, bit: Some(k) },
+        Meant::Bit { .. } | Meant::Neither => Aim {
+            a: 0,
+            b: 0,
+            bit: Some(k),
+        },
     }
 }

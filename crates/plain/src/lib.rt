@@ -1,10 +1,10 @@
 // Statements with no statement inside, and tests.
 #![tactic(auto)]
 
-ghost use Rattle.std.specs.Prelude.{◌≡◌, Bool, true, length, ◌+◌, ◌*◌, ◌≤◌, ◌<◌};
+ghost use Rattle.std.specs.Prelude.{◌≡◌, Bool, length, ◌+◌, ◌*◌, ◌≤◌, ◌<◌};
 ghost use Rattle.hand.specs.Along.{Begins};
 ghost use Rattle.parts.specs.Beside.{beside};
-ghost use Rattle.tiers.specs.Choose.{is_plain};
+ghost use Rattle.tiers.specs.Choose.{plain_number};
 ghost use Rattle.items.specs.Came.{Ready, TestCame, RowCame};
 ghost use Rattle.plain.specs.Aim.{Changes};
 
@@ -12,6 +12,8 @@ use crate::aim::Aim;
 use frames::Under;
 use hand::Here;
 use items::{Marks, Read, Tried};
+use tiers::PlainRow;
+use words::kinds;
 
 mod aim;
 pub mod stays;
@@ -30,10 +32,8 @@ pub fn test(
     requires { Ready s.now (beside t.old) count levels first }
     ensures { TestCame s.now (beside t.old).names count u levels first marks p t.old t.new result }
 {
-    let n = marks.notes;
-    let g = exprs::expr(s, count, t, u, 0, first, n, levels);
-    let w = g.word;
-    let after = hand::word_from(s, w.next);
+    let g = exprs::expr(s, count, t, u, 0, first, marks.notes, levels);
+    let after = hand::word_from(s, g.word.next);
     let m = items::noted::tested(marks, g, p);
     Tried {
         word: after,
@@ -62,15 +62,19 @@ fn changed(
     let v = parts::seen::find(s, t, count, g.a, g.b);
     let low = parts::found::number_of(v);
     let width = items::targets::width_of(v);
-    if g.single {
-        let k = items::targets::bit_changed(marks, v, g.j, q);
-        return written::finish(t, i, row, p, word, k, low, width, g.j, 0);
+    match g.bit {
+        Some(j) => {
+            let k = items::targets::bit_changed(marks, v, j, q);
+            written::finish(t, i, row, p, word, k, low, width, j, 0)
+        }
+        None => {
+            let k = items::targets::changed(marks, v, q, p);
+            written::finish(t, i, row, p, word, k, low, width, 0, 0)
+        }
     }
-    let k = items::targets::changed(marks, v, q, p);
-    written::finish(t, i, row, p, word, k, low, width, 0, 0)
 }
 
-// `raise`, `lower`, `invert`.
+// `raise`, `lower`, `invert`: the nodes 2, 3 and 4.
 fn change(
     s: &[u8],
     count: u16,
@@ -93,7 +97,7 @@ fn change(
     let v = frames::follow::meant(s, t, u, name.place, name.next);
     let after = hand::word_from(s, name.next);
     let second = hand::word_from(s, after.next);
-    if after.kind != 16 {
+    if after.kind != kinds::LEFT {
         let g = aim::whole_of(v);
         return changed(s, count, t, row, i, p, q, g, second, m);
     }
@@ -121,54 +125,65 @@ pub fn assign(
     let i = marks.nodes;
     let p = frames::told(u, first.place);
     let m = items::noted::begun(marks, p);
-    let n = m.notes;
     let to = aim::name_of(frames::follow::meant(s, t, u, first.place, first.next));
     let third = hand::word_from(s, second.next);
-    let x = exprs::expr(s, count, t, u, 0, third, n, levels);
-    let w = x.word;
+    let x = exprs::expr(s, count, t, u, 0, third, m.notes, levels);
     let v = parts::seen::find(s, t, count, to.a, to.b);
     let low = parts::found::number_of(v);
     let width = items::targets::width_of(v);
     let k = items::targets::assigned(m, x, v, p);
-    written::finish(t, i, 5, p, w, k, low, width, x.looks as u16, x.root)
+    written::finish(
+        t,
+        i,
+        5,
+        p,
+        x.word,
+        k,
+        low,
+        width,
+        u16::from(x.looks),
+        x.root,
+    )
 }
 
-// A statement with no statement inside that does not begin with a name, by its row.
+// A statement with no statement inside that does not begin with a name.
 pub fn plain(
     s: &[u8],
     count: u16,
     t: &mut [u8],
     u: Under,
-    row: u8,
+    row: PlainRow,
     first: Here,
     marks: Marks,
     lp: bool,
     br: bool,
     levels: u8,
 ) -> Read
-    requires { (is_plain row ≡ true) × Ready s.now (beside t.old) count levels first }
-    ensures { RowCame s.now (beside t.old).names count u levels lp br row first marks t.old t.new result }
+    requires { Ready s.now (beside t.old) count levels first }
+    ensures { RowCame s.now (beside t.old).names count u levels lp br (plain_number row) first marks t.old t.new result }
 {
     let i = marks.nodes;
     let p = frames::told(u, first.place);
     let m = items::noted::begun(marks, p);
     let second = hand::word_from(s, first.next);
-    if row == 0 {
-        return written::finish(t, i, 0, p, second, m, 0, 0, 0, 0);
+    match row {
+        PlainRow::Skip => written::finish(t, i, 0, p, second, m, 0, 0, 0, 0),
+        PlainRow::Delay => {
+            let after = hand::word_from(s, second.next);
+            let q = frames::told(u, second.place);
+            let k = items::noted::delayed(m, second.value, q);
+            written::finish(t, i, 1, p, after, k, q, second.value, 0, 0)
+        }
+        PlainRow::Raise => change(s, count, t, u, 2, first, marks, levels),
+        PlainRow::Lower => change(s, count, t, u, 3, first, marks, levels),
+        PlainRow::Invert => change(s, count, t, u, 4, first, marks, levels),
+        PlainRow::Exit => {
+            let k = items::noted::leaves(m, lp, p);
+            written::finish(t, i, 9, p, second, k, 0, 0, 0, 0)
+        }
+        PlainRow::Break => {
+            let k = items::noted::leaves(m, br, p);
+            written::finish(t, i, 10, p, second, k, 0, 0, 0, 0)
+        }
     }
-    if row == 9 {
-        let k = items::noted::leaves(m, lp, p);
-        return written::finish(t, i, 9, p, second, k, 0, 0, 0, 0);
-    }
-    if row == 11 {
-        let k = items::noted::leaves(m, br, p);
-        return written::finish(t, i, 10, p, second, k, 0, 0, 0, 0);
-    }
-    if row == 1 {
-        let after = hand::word_from(s, second.next);
-        let q = frames::told(u, second.place);
-        let k = items::noted::delayed(m, second.value, q);
-        return written::finish(t, i, 1, p, after, k, q, second.value, 0, 0);
-    }
-    change(s, count, t, u, row, first, marks, levels)
 }

@@ -32,13 +32,9 @@ pub fn passing(t: &mut [u8], word: Here, marks: Marks, p: u16, acts: u16) -> Rea
     let i = marks.nodes;
     let m = items::noted::begun(marks, p);
     let mut at = items::made(word, items::noted::with_acts(m, 0));
-    let mut j = 0;
-    while j < acts {
-        let k = at.marks;
-        at = idle(t, word, k, p);
-        j += 1;
+    for j in 0..acts {
+        at = idle(t, word, at.marks, p);
     }
-    let q = at.marks;
-    let n = items::noted::together(q, marks.acts, p);
+    let n = items::noted::together(at.marks, marks.acts, p);
     written::finish(t, i, 12, p, word, items::noted::passing(n, p), 0, 0, 0, 0)
 }

@@ -11,7 +11,7 @@ ghost use Rattle.sizes.specs.Counts.{Ready, Sizes};
 
 use frames::Under;
 use hand::Here;
-use tiers::How;
+use tiers::{How, OperandRow};
 
 pub mod counts;
 mod single;
@@ -68,7 +68,7 @@ fn between(s: &[u8], t: &[u8], u: Under, tier: u8, first: Here, levels: u8) -> E
     let mut left = expr(s, t, u, tier + 1, first, levels);
     loop {
         let w = left.word;
-        if tiers::strength_of(w.kind) != tier {
+        if tiers::strength_of(w.kind) != Some(tier) {
             return left;
         }
         let v = hand::word_from(s, w.next);
@@ -83,21 +83,27 @@ fn operand(s: &[u8], t: &[u8], u: Under, tier: u8, first: Here, levels: u8) -> E
     requires { Ready s.now tier levels first × IsHow (get_elem? binding tier) Operand }
     ensures { Sizes s.now t.now u tier levels first result }
 {
-    let row = tiers::operand_row(first.kind);
-    if row < 4 {
-        return single::bare(s, t, u, row, first);
+    match tiers::operand_row(first.kind) {
+        None => counts::leaf(first),
+        Some(OperandRow::Name) => single::name(s, t, u, first),
+        Some(OperandRow::Number) => counts::leaf(hand::word_from(s, first.next)),
+        Some(OperandRow::Truth(_)) => counts::leaf(hand::word_from(s, first.next)),
+        Some(OperandRow::Open) => {
+            if levels == 0 {
+                return counts::leaf(first);
+            }
+            let second = hand::word_from(s, first.next);
+            let g = expr(s, t, u, 0, second, levels - 1);
+            counts::inside(hand::word_from(s, g.word.next), g)
+        }
+        Some(OperandRow::Int) => {
+            if levels == 0 {
+                return counts::leaf(first);
+            }
+            let second = hand::word_from(s, first.next);
+            let third = hand::word_from(s, second.next);
+            let g = expr(s, t, u, 0, third, levels - 1);
+            counts::over(hand::word_from(s, g.word.next), g)
+        }
     }
-    if levels == 0 {
-        return counts::leaf(first);
-    }
-    let second = hand::word_from(s, first.next);
-    if row == 5 {
-        let g = expr(s, t, u, 0, second, levels - 1);
-        let c = g.word;
-        return counts::inside(hand::word_from(s, c.next), g);
-    }
-    let third = hand::word_from(s, second.next);
-    let g = expr(s, t, u, 0, third, levels - 1);
-    let c = g.word;
-    counts::over(hand::word_from(s, c.next), g)
 }

@@ -1,11 +1,11 @@
 // An operand with no expression inside.
-ghost use Rattle.std.specs.Prelude.{◌<◌};
 ghost use Rattle.hand.specs.Along.{Near};
 ghost use Rattle.sizes.specs.Counts.{SizesName, SizesBare};
 
 use crate::{Extent, counts};
 use frames::Under;
 use hand::Here;
+use words::kinds;
 
 // A name that is read: one part, or what its actual has, a level deeper.
 fn named(s: &[u8], t: &[u8], u: Under, h: Here, word: Here) -> Extent
@@ -17,22 +17,13 @@ fn named(s: &[u8], t: &[u8], u: Under, h: Here, word: Here) -> Extent
     }
 }
 
-// A name, a bit, a number, `true` or `false`: the rows 0 to 3 of an operand.
-pub fn bare(s: &[u8], t: &[u8], u: Under, row: u8, h: Here) -> Extent
-    requires { Near s.now h × (row < 4) }
-    ensures { SizesBare s.now t.now u row h result }
+// A name or a bit.
+pub fn name(s: &[u8], t: &[u8], u: Under, h: Here) -> Extent
+    requires { Near s.now h }
+    ensures { SizesBare s.now t.now u 0 h result }
 {
     let after = hand::word_from(s, h.next);
-    if row == 1 {
-        return counts::leaf(after);
-    }
-    if row == 2 {
-        return counts::leaf(after);
-    }
-    if row == 3 {
-        return counts::leaf(after);
-    }
-    if after.kind != 16 {
+    if after.kind != kinds::LEFT {
         return named(s, t, u, h, after);
     }
     let number = hand::word_from(s, after.next);

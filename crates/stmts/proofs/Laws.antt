@@ -18,7 +18,7 @@ use Rattle.frames_law.specs.Frames.{told_at}
 use Rattle.frames.specs.declared.Under.{Under}
 use Rattle.tiers.specs.Choose.{statement_row, is_plain}
 use Rattle.tiers.proofs.Laws.{first_is}
-use Rattle.tiers.proofs.Rows.{row_told, row_six, row-none, else_only, one_there, none_there}
+use Rattle.tiers.proofs.Rows.{row_told, row-none, else_only, one_there, none_there}
 use Rattle.items.specs.declared.Marks.{Marks}
 use Rattle.items.specs.declared.Read.{Read}
 use Rattle.items.specs.declared.Tried.{Tried}
@@ -99,8 +99,9 @@ module _ {s z : List ℕ} {count : ℕ} {under : Under} {k : ℕ} {l b : Bool} {
   pub one_none : {t : List ℕ} {r : Read} → Near s h → is_plain row ≡ false → ¬ (row ≡ 5) → k ≡ 0 → r.word ≡ h → One s z count under k l b h m t t r
   one_none near p no_name no-level w = one (record { near = rw w near; later = rw w (omega arith); kept = refl }) (λ o ws st e v rest y. row-none e k ws v rest row no-level p no_name y)
 
-  pub one_if : {t u : List ℕ} {r : Read} → is_plain row ≡ false → ¬ (row ≡ 5) → ¬ (row ≡ 7) → ¬ (row ≡ 8) → ¬ (row ≡ 10) → ¬ (row ≡ 12) → RowCame s z count under k l b 6 h m t u r → One s z count under k l b h m t u r
-  one_if p n₅ n₇ n₈ n₁₀ n₁₂ came = one came.on (λ o ws st e v rest y. came.told o ws st e v rest (row_six e k ws v rest row p n₅ n₇ n₈ n₁₀ n₁₂ y))
+  -- no statement begins with such a word
+  pub one_other : {t : List ℕ} {r : Read} → row ≡ 13 → Near s h → r.word ≡ h → One s z count under k l b h m t t r
+  one_other last near w = one (record { near = rw w near; later = rw w (omega arith); kept = refl }) (λ o ws st e v rest y. absurd (rw last at y))
 
 -- ---- a statement with statements inside
 

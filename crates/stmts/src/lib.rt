@@ -10,6 +10,10 @@ ghost use Rattle.items.specs.Came.{Ready, RowCame, CallCame, OutermostCame, One,
 use frames::Under;
 use hand::Here;
 use items::{Marks, Read};
+use tiers::{AroundRow, StatementRow};
+use words::kinds;
+
+// What each reader is lent and given (s, count, t, u, lp, br, levels) stands in no struct: t is lent on from call to call, lp, br and levels change one by one, and the contracts name s.now, t.old and t.new each by itself.
 
 // A statement, from its first word on, with so many levels left; whether it stands inside a loop, and inside a switch or a parallel.
 #[cycle(branch_branches_call_cases_choice_list_loop_always_named_one_case_outermost_parallel_stmt_switch_while_loop)]
@@ -27,29 +31,25 @@ fn stmt(
     requires { Ready s.now (beside t.old) count levels first }
     ensures { One s.now (beside t.old).names count u levels lp br first marks t.old t.new result }
 {
-    let row = tiers::statement_row(first.kind);
-    if tiers::is_plain(row) {
-        return plain::plain(s, count, t, u, row, first, marks, lp, br, levels);
+    match tiers::statement_row(first.kind) {
+        None => items::made(first, marks),
+        Some(StatementRow::Plain(row)) => {
+            plain::plain(s, count, t, u, row, first, marks, lp, br, levels)
+        }
+        Some(StatementRow::Name) => named(s, count, t, u, first, marks, lp, br, levels),
+        Some(StatementRow::Around(row)) => {
+            if levels == 0 {
+                return items::made(first, marks);
+            }
+            match row {
+                AroundRow::If => choice(s, count, t, u, first, marks, lp, br, levels),
+                AroundRow::While => while_loop(s, count, t, u, first, marks, br, levels),
+                AroundRow::Loop => loop_always(s, count, t, u, first, marks, br, levels),
+                AroundRow::Switch => switch(s, count, t, u, first, marks, lp, levels),
+                AroundRow::Parallel => parallel(s, count, t, u, first, marks, lp, levels),
+            }
+        }
     }
-    if row == 5 {
-        return named(s, count, t, u, first, marks, lp, br, levels);
-    }
-    if levels == 0 {
-        return items::made(first, marks);
-    }
-    if row == 7 {
-        return while_loop(s, count, t, u, first, marks, br, levels);
-    }
-    if row == 8 {
-        return loop_always(s, count, t, u, first, marks, br, levels);
-    }
-    if row == 10 {
-        return switch(s, count, t, u, first, marks, lp, levels);
-    }
-    if row == 12 {
-        return parallel(s, count, t, u, first, marks, lp, levels);
-    }
-    choice(s, count, t, u, first, marks, lp, br, levels)
 }
 
 // A statement that begins with a name: an assignment, or a call.
@@ -69,7 +69,7 @@ fn named(
     ensures { RowCame s.now (beside t.old).names count u levels lp br 5 first marks t.old t.new result }
 {
     let second = hand::word_from(s, first.next);
-    if second.kind != 14 {
+    if second.kind != kinds::OPEN {
         return plain::assign(s, count, t, u, first, second, marks, levels);
     }
     if u.at < 65535 {
@@ -178,7 +178,7 @@ fn while_loop(
     let body = hand::word_from(s, g.word.next);
     let a = list(s, count, t, u, body, g.marks, true, br, below);
     let next = hand::word_from(s, a.word.next);
-    written::finish(t, i, 7, p, next, a.marks, g.root, 0, g.looks as u16, 0)
+    written::finish(t, i, 7, p, next, a.marks, g.root, 0, u16::from(g.looks), 0)
 }
 
 // `if`, with or without `else`.
@@ -206,12 +206,12 @@ fn choice(
     let a = list(s, count, t, u, g.word, g.marks, lp, br, below);
     let j = a.marks.nodes;
     let next = hand::word_from(s, a.word.next);
-    if a.word.kind != 42 {
-        return written::finish(t, i, 6, p, next, a.marks, g.root, j, g.looks as u16, 0);
+    if a.word.kind != kinds::ELSE {
+        return written::finish(t, i, 6, p, next, a.marks, g.root, j, u16::from(g.looks), 0);
     }
     let b = list(s, count, t, u, next, a.marks, lp, br, below);
     let end = hand::word_from(s, b.word.next);
-    written::finish(t, i, 6, p, end, b.marks, g.root, j, g.looks as u16, 0)
+    written::finish(t, i, 6, p, end, b.marks, g.root, j, u16::from(g.looks), 0)
 }
 
 // `switch`: a case, the cases behind it, and the default.
@@ -289,11 +289,11 @@ pub fn list(
 {
     let mut at = stmt(s, count, t, u, first, marks, lp, br, levels);
     loop {
-        if at.word.kind != 12 {
+        if at.word.kind != kinds::SEMICOLON {
             return at;
         }
         let v = hand::word_from(s, at.word.next);
-        if tiers::statement_row(v.kind) == 13 {
+        if tiers::statement_row(v.kind).is_none() {
             return items::made(v, at.marks);
         }
         at = stmt(s, count, t, u, v, at.marks, lp, br, levels);
@@ -322,7 +322,18 @@ fn one_case(
     let g = plain::test(s, count, t, u, second, m, p, levels);
     let a = list(s, count, t, u, g.word, g.marks, lp, true, levels);
     let j = a.marks.nodes;
-    written::finish(t, i, 13, p, a.word, a.marks, g.root, j, g.looks as u16, 0)
+    written::finish(
+        t,
+        i,
+        13,
+        p,
+        a.word,
+        a.marks,
+        g.root,
+        j,
+        u16::from(g.looks),
+        0,
+    )
 }
 
 // Cases, as long as there are any.
@@ -342,7 +353,7 @@ fn cases(
 {
     let mut at = items::made(first, marks);
     loop {
-        if at.word.kind != 50 {
+        if at.word.kind != kinds::CASE {
             return at;
         }
         at = one_case(s, count, t, u, at.word, at.marks, lp, levels);
@@ -386,7 +397,7 @@ fn branches(
 {
     let mut at = items::made(first, marks);
     loop {
-        if at.word.kind != 2 {
+        if at.word.kind != kinds::BARS {
             return at;
         }
         let v = hand::word_from(s, at.word.next);

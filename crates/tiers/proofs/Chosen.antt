@@ -7,9 +7,9 @@ use mathlib.Core.Option.{Option, none, some}
 use Prim.Native.Nat.{ℕ, zero, suc, ◌≤◌, ◌<◌}
 use Prim.Native.String.{String}
 use native.Mathlib.Omega.{arith}
-use lib.Dec.{eqb}
+use lib.Dec.{eqb, ltb}
 use lib.ListN.{length, get_or, get_elem?, get_or-eq_default}
-use borrow.Author.Tests.{eqb-true, eqb-false, not-true}
+use borrow.Author.Tests.{eqb-true, eqb-false, ltb-true, not-true}
 use Rattle.ll1.proofs.Tests.{has, begin_row, pick}
 use Rattle.ll1.proofs.Sets.{clash}
 use Rattle.language.specs.Words.{Kind, the, signs, reserved}
@@ -98,6 +98,6 @@ any-default (x ∷ l) zero d e h = refl
 any-default (x ∷ l) (suc k) d e h = any-default l k d e (omega arith)
 
 -- so the table in code says the strengths
-pub strength_listed : (k : ℕ) → k ≤ 25 → get_or strengths k 0 ≡ strength_of k
+pub strength_listed : (i k d t : ℕ) → true ≡ ltb i 26 → i ≡ k → t ≡ get_or strengths i d → t ≡ strength_of k
 unfolding strength_of
-strength_listed k h = any-default strengths k 0 255 (omega arith)
+strength_listed i k d t h e q = q ∙ any-default strengths i d 255 (ltb-true i 26 (sym h)) ∙ ap (λ (n : ℕ). get_or strengths n 255) e

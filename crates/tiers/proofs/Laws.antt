@@ -1,6 +1,6 @@
 -- The laws of a reader of expressions: one for each way on, whatever is claimed of the terms.
 -- Assumes nothing.
-use mathlib.Core.Bool.{true, false}
+use mathlib.Core.Bool.{Bool, true, false, cond}
 use mathlib.Core.Path.{◌≡◌, refl, sym, ◌∙◌, ap, subst}
 use mathlib.Core.List.{List, [], ◌∷◌, cons≢nil}
 use mathlib.Core.Option.{Option, none, some}
@@ -242,6 +242,11 @@ module _ {s : List ℕ} {n k : ℕ} {h : Here} {row : ℕ} (how : IsHow (get_ele
   pub operand_bare : {w : Here} {P : Term → Type 0} → ComesBare s row h w P → Comes s n k h w P
   operand_bare came = record { near = came.near; later = came.later; told = λ ws st f v rest x. let (g, row) = operand-told s n k h ws f v rest how st x in came.told ws st g k v rest (rw e row) }
 
+  -- no operand begins with such a word
+  pub operand_none : {w : Here} {P : Term → Type 0} → row ≡ 6 → Near s h → w ≡ h → Comes s n k h w P
+  operand_none {w} {P} six near is =
+      record { near = rw is near; later = rw is (omega arith); told = λ ws st f v rest x. let (g, y) = operand-told s n k h ws f v rest how st x in absurd (rw (← e, six) at y) }
+
   -- in parentheses or of `int`, with no level left
   pub operand-deep : {w : Here} {P : Term → Type 0} → ¬ (row < 4) → k ≡ 0 → Near s h → w ≡ h → Comes s n k h w P
   operand-deep {w} {P} large none_left_lem near is =
@@ -321,6 +326,10 @@ module _ {s : List ℕ} {h w a : Here} {P : Term → Type 0} {row : ℕ} (near :
       go ws st v rest f k (x, q, d) =
           let (same, along) = first_is st q in
           record { word = rw is (b.stands rest along); holds = subst P (ap (λ (n : ℕ). truth n false) same.place ∙ sym d) holds }
+
+  pub bare_truth : (value : Bool) → row ≡ cond value 2 3 → w ≡ a → P (truth h.place value) → ComesBare s row h w P
+  bare_truth true = bare_true
+  bare_truth false = bare_false
 
   pub bare_name : row ≡ 0 → ¬ (a.kind ≡ 16) → w ≡ a → P (variable (name_in s h)) → ComesBare s row h w P
   bare_name none_row not-index is holds = record { near = rw is b.near; later = rw is (omega (arith, near.on, b.later)); told = λ ws st f k v rest x. go ws st v rest f k (rw none_row at x) }

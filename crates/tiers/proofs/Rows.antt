@@ -81,24 +81,6 @@ row_told s k h ws f v rest st x =
     let (e, i, p, row) = statement-told f k ws v rest x in
     (e, subst (StatementRow e k ws v rest) (sym (called-row s Statement statement_row all-statements h ws i st p)) row)
 
--- no row but that of an `if` is left
-pub row_six : (f k : ℕ) (ws : List Word) (v : Command) (rest : List Word) (i : ℕ) → is_plain i ≡ false → ¬ (i ≡ 5) → ¬ (i ≡ 7) → ¬ (i ≡ 8) → ¬ (i ≡ 10) → ¬ (i ≡ 12) → StatementRow f k ws v rest i → StatementRow f k ws v rest 6
-unfolding is_plain
-row_six f k ws v rest zero p o a b c d x = clash p
-row_six f k ws v rest (suc zero) p o a b c d x = clash p
-row_six f k ws v rest (suc (suc zero)) p o a b c d x = clash p
-row_six f k ws v rest (suc (suc (suc zero))) p o a b c d x = clash p
-row_six f k ws v rest (suc (suc (suc (suc zero)))) p o a b c d x = clash p
-row_six f k ws v rest (suc (suc (suc (suc (suc zero))))) p o a b c d x = absurd (o refl)
-row_six f k ws v rest (suc (suc (suc (suc (suc (suc zero)))))) p o a b c d x = x
-row_six f k ws v rest (suc (suc (suc (suc (suc (suc (suc zero))))))) p o a b c d x = absurd (a refl)
-row_six f k ws v rest (suc (suc (suc (suc (suc (suc (suc (suc zero)))))))) p o a b c d x = absurd (b refl)
-row_six f k ws v rest (suc (suc (suc (suc (suc (suc (suc (suc (suc zero))))))))) p o a b c d x = clash p
-row_six f k ws v rest (suc (suc (suc (suc (suc (suc (suc (suc (suc (suc zero)))))))))) p o a b c d x = absurd (c refl)
-row_six f k ws v rest (suc (suc (suc (suc (suc (suc (suc (suc (suc (suc (suc zero))))))))))) p o a b c d x = clash p
-row_six f k ws v rest (suc (suc (suc (suc (suc (suc (suc (suc (suc (suc (suc (suc zero)))))))))))) p o a b c d x = absurd (d refl)
-row_six f k ws v rest (suc (suc (suc (suc (suc (suc (suc (suc (suc (suc (suc (suc (suc i))))))))))))) p o a b c d x = absurd x
-
 -- with no level left there is none with statements inside
 pub row-none : {A : Type 0} (f k : ℕ) (ws : List Word) (v : Command) (rest : List Word) (i : ℕ) → k ≡ 0 → is_plain i ≡ false → ¬ (i ≡ 5) → StatementRow f k ws v rest i → A
 unfolding is_plain

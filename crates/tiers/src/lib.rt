@@ -4,8 +4,9 @@
 ghost use Rattle.std.specs.Prelude.{◌≡◌};
 ghost use Rattle.std.proofs.Math.ListN.{get_elem?};
 ghost use Rattle.language.specs.Grammar.{binding};
-ghost use Rattle.tiers.specs.Strengths.{strengths};
-ghost use Rattle.tiers.specs.Choose.{IsHow, operand_row, strength_of, statement_row, is_plain};
+ghost use Rattle.tiers.specs.Choose.{IsHow, operand_row, operand_number, strength_of, strength_number, statement_row, statement_number};
+
+use words::kinds;
 
 mod strengths;
 
@@ -17,120 +18,101 @@ pub enum How {
     Before(u8),
 }
 
+// What an operand begins with.
+#[derive(Clone, Copy, PartialEq, Eq)]
+pub enum OperandRow {
+    Name,
+    Number,
+    Truth(bool),
+    Int,
+    Open,
+}
+
+// What a statement with no statement inside begins with, where that is no name.
+#[derive(Clone, Copy, PartialEq, Eq)]
+pub enum PlainRow {
+    Skip,
+    Delay,
+    Raise,
+    Lower,
+    Invert,
+    Exit,
+    Break,
+}
+
+// What a statement with statements inside begins with.
+#[derive(Clone, Copy, PartialEq, Eq)]
+pub enum AroundRow {
+    If,
+    While,
+    Loop,
+    Switch,
+    Parallel,
+}
+
+// What a statement begins with.
+#[derive(Clone, Copy, PartialEq, Eq)]
+pub enum StatementRow {
+    Plain(PlainRow),
+    Name,
+    Around(AroundRow),
+}
+
 // How the operators of a strength stand.
+#[tactic(auto, using(crate::proofs::Small::no_strength), unfolding(language::specs::Grammar::binding))]
 pub fn strength_at(tier: u8) -> How
     ensures { IsHow (get_elem? binding tier) result }
 {
-    if tier == 0 {
-        return How::Between;
+    match tier {
+        0 | 1 | 2 | 4 | 5 => How::Between,
+        3 => How::Before(kinds::NOT),
+        _ => How::Operand,
     }
-    if tier == 1 {
-        return How::Between;
-    }
-    if tier == 2 {
-        return How::Between;
-    }
-    if tier == 3 {
-        return How::Before(5);
-    }
-    if tier == 4 {
-        return How::Between;
-    }
-    if tier == 5 {
-        return How::Between;
-    }
-    How::Operand
 }
 
 // The row of an operand.
-pub fn operand_row(kind: u8) -> u8
-    ensures { result ≡ operand_row kind }
+#[tactic(auto, unfolding(crate::specs::Choose::operand_row))]
+pub fn operand_row(kind: u8) -> Option<OperandRow>
+    ensures { operand_number result ≡ operand_row kind }
 {
-    if kind == 0 {
-        return 0;
+    match kind {
+        kinds::NAME => Some(OperandRow::Name),
+        kinds::NUMBER => Some(OperandRow::Number),
+        kinds::TRUE => Some(OperandRow::Truth(true)),
+        kinds::FALSE => Some(OperandRow::Truth(false)),
+        kinds::INT => Some(OperandRow::Int),
+        kinds::OPEN => Some(OperandRow::Open),
+        _ => None,
     }
-    if kind == 1 {
-        return 1;
-    }
-    if kind == 32 {
-        return 2;
-    }
-    if kind == 33 {
-        return 3;
-    }
-    if kind == 34 {
-        return 4;
-    }
-    if kind == 14 {
-        return 5;
-    }
-    6
 }
 
-// The table of strengths.
-fn all_strengths() -> [u8; 26]
-    ensures { result ≡ strengths }
+// The strength of an operator between its operands.
+pub fn strength_of(kind: u8) -> Option<u8>
+    ensures { (strength_number result ≡ strength_of kind) × ¬ (result ≡ Some 255) }
 {
-    strengths::STRENGTHS
+    let tier = *strengths::STRENGTHS.get(usize::from(kind))?;
+    if tier == 255 { None } else { Some(tier) }
 }
 
-// The strength of an operator between its operands; 255 for every other word.
-pub fn strength_of(kind: u8) -> u8
-    ensures { result ≡ strength_of kind }
+// The row of the statement that begins with a word of this kind.
+#[tactic(auto, unfolding(crate::specs::Choose::statement_row))]
+pub fn statement_row(kind: u8) -> Option<StatementRow>
+    ensures { statement_number result ≡ statement_row kind }
 {
-    if kind > 25 {
-        return 255;
+    match kind {
+        kinds::SKIP => Some(StatementRow::Plain(PlainRow::Skip)),
+        kinds::DELAY => Some(StatementRow::Plain(PlainRow::Delay)),
+        kinds::RAISE => Some(StatementRow::Plain(PlainRow::Raise)),
+        kinds::LOWER => Some(StatementRow::Plain(PlainRow::Lower)),
+        kinds::INVERT => Some(StatementRow::Plain(PlainRow::Invert)),
+        kinds::EXIT => Some(StatementRow::Plain(PlainRow::Exit)),
+        kinds::BREAK => Some(StatementRow::Plain(PlainRow::Break)),
+        kinds::NAME => Some(StatementRow::Name),
+        kinds::IF => Some(StatementRow::Around(AroundRow::If)),
+        kinds::WHILE => Some(StatementRow::Around(AroundRow::While)),
+        kinds::LOOP => Some(StatementRow::Around(AroundRow::Loop)),
+        kinds::SWITCH => Some(StatementRow::Around(AroundRow::Switch)),
+        kinds::PARALLEL => Some(StatementRow::Around(AroundRow::Parallel)),
+        _ => None,
     }
-    let table = all_strengths();
-    table[kind as usize]
-}
-
-// The row of the statement that begins with a word of this kind; 13 for none.
-pub fn statement_row(kind: u8) -> u8
-    ensures { result ≡ statement_row kind }
-{
-    if kind == 0 {
-        return 5;
-    }
-    if kind < 35 {
-        return 13;
-    }
-    if kind < 40 {
-        return kind - 35;
-    }
-    if kind == 40 {
-        return 6;
-    }
-    if kind == 44 {
-        return 7;
-    }
-    if kind == 46 {
-        return 8;
-    }
-    if kind == 48 {
-        return 9;
-    }
-    if kind == 49 {
-        return 10;
-    }
-    if kind == 53 {
-        return 11;
-    }
-    if kind == 54 {
-        return 12;
-    }
-    13
-}
-
-// A statement with no statement inside that does not begin with a name.
-pub fn is_plain(row: u8) -> bool
-    ensures { result ≡ is_plain row }
-{
-    if row < 5 {
-        return true;
-    }
-    if row == 9 {
-        return true;
-    }
-    row == 11
 }

@@ -1,29 +1,23 @@
 // Nodes written into lent bytes when a statement or a branch ends.
 #![tactic(auto)]
 
-ghost use Rattle.std.specs.Prelude.{◌≡◌, ◌≤◌, ◌+◌, length};
-ghost use Rattle.items.specs.Walk.{set_half, put_node, put_branch, end_for};
+ghost use Rattle.std.specs.Prelude.{◌≡◌};
+ghost use Rattle.items.specs.Walk.{put_node, put_branch, end_for};
 ghost use Rattle.items.specs.Came.{Finished, Branched};
 
 use hand::Here;
 use items::{Marks, Read};
+use parts::leaves::put_half;
 
-fn put_half(t: &mut [u8], o: usize, x: u16)
-    requires { o + 2 ≤ length t.old }
-    ensures { t.new ≡ set_half t.old o x }
-{
-    t[o] = (x % 256) as u8;
-    t[o + 1] = (x / 256) as u8;
-}
-
-// The node i, where it fits: what it is, its place, the number behind it, and four numbers.
+// The node i, where it fits: what it is, its place, the number behind it, and four numbers. What it is is the number of its first byte, as the definition put_node takes it: an enum would be turned back into it here, and nowhere read.
+#[tactic(auto, unfolding(items::specs::Walk::put_node, items::specs::Walk::set_half))]
 fn put_node(t: &mut [u8], i: u16, kind: u8, p: u16, e: u16, a: u16, b: u16, c: u16, d: u16)
     ensures { t.new ≡ put_node t.old i kind p e a b c d }
 {
     if i >= 512 {
         return;
     }
-    let o = i as usize * 16;
+    let o = usize::from(i) * 16;
     if o + 16 > t.len() {
         return;
     }
@@ -37,13 +31,14 @@ fn put_node(t: &mut [u8], i: u16, kind: u8, p: u16, e: u16, a: u16, b: u16, c: u
 }
 
 // The branch that begins with the node i: its activities and the number behind it.
+#[tactic(auto, unfolding(items::specs::Walk::put_branch, items::specs::Walk::set_half))]
 fn put_branch(t: &mut [u8], i: u16, acts: u8, e: u16)
     ensures { t.new ≡ put_branch t.old i acts e }
 {
     if i >= 512 {
         return;
     }
-    let o = i as usize * 16;
+    let o = usize::from(i) * 16;
     if o + 16 > t.len() {
         return;
     }
@@ -52,13 +47,11 @@ fn put_branch(t: &mut [u8], i: u16, acts: u8, e: u16)
 }
 
 // The number behind a node's own part: a case test has none.
+#[tactic(auto, unfolding(items::specs::Walk::end_for))]
 fn end_for(kind: u8, nodes: u16) -> u16
     ensures { result ≡ end_for kind nodes }
 {
-    if kind == 13 {
-        return 0;
-    }
-    nodes
+    if kind == 13 { 0 } else { nodes }
 }
 
 // A statement that ends: its node is i.
@@ -85,11 +78,10 @@ pub fn finish(
 pub fn branched(t: &mut [u8], marks: Marks, r: Read) -> Read
     ensures { Branched marks r t.old t.new result }
 {
-    let w = r.word;
     let m = r.marks;
     put_branch(t, marks.nodes, m.acts, m.nodes);
     Read {
-        word: w,
         marks: items::noted::with_acts(m, items::noted::summed(marks.acts, m.acts)),
+        ..r
     }
 }

@@ -1,8 +1,11 @@
 -- The readers that count meet their contracts: one law at each way on. 512 for each procedure that can be called and 8 for each level left fall with each statement inside another; the text left falls with each statement of a list.
 -- Assumes nothing.
-use mathlib.Core.Path.{sym, ◌∙◌}
+use mathlib.Core.Bool.{not}
+use mathlib.Core.Path.{refl, sym, ◌∙◌, ap}
 use native.Mathlib.Omega.{arith}
-use Rattle.measure.proofs.Laws.{on_long, one-row, one_bare, one_none, one_if, row_bare, loop-came, while-came, if_came, else_came, switch-came, parallel-came}
+use Rattle.tiers.specs.Choose.{around_number}
+use Rattle.tiers.proofs.Coded.{around_row, some_row, no_row}
+use Rattle.measure.proofs.Laws.{on_long, one-row, one_bare, one_none, one_other, row_bare, loop-came, while-came, if_came, else_came, switch-came, parallel-came}
 use Rattle.measure.proofs.Calling.{wrote_frame, call_stays, call_full, call-body}
 use Rattle.measure.proofs.Lists.{list-start, list-ends, list_spare, list_on, case-came, cases_start, cases_end, cases_on, branch_came, branches_start, branches_end, branches_on}
 use Rattle.measure.proofs.+branch_branches_call_cases_choice_list_loop_always_named_one_case_parallel_stmt_switch_while_loop.Goals as goal
@@ -133,11 +136,11 @@ list-returns-then-w-ne12 t c = list-ends c.stmt-at.ensures (rw c.stmt-at.ensures
 pub list-word_from-v-requires : goal.list-word_from-v-requires
 list-word_from-v-requires t c = (c.requires.near.short, c.loop-u.invariant.on.near.inside)
 
-pub list-shape_of-t-then-statement_row-eq13 : goal.list-shape_of-t-then-statement_row-eq13
-list-shape_of-t-then-statement_row-eq13 t c = on_long c.loop-u.invariant.on ∙ on_long c.stmt-at.ensures.on
+pub list-shape_of-t-then-is_none : goal.list-shape_of-t-then-is_none
+list-shape_of-t-then-is_none t c = on_long c.loop-u.invariant.on ∙ on_long c.stmt-at.ensures.on
 
-pub list-returns-then-statement_row-eq13 : goal.list-returns-then-statement_row-eq13
-list-returns-then-statement_row-eq13 t c = list_spare c.stmt-at.ensures (rw c.stmt-at.ensures.on.kept at c.loop-u.invariant) c.if-w-ne12.false c.word_from-v.ensures (sym c.statement_row.ensures ∙ c.if-statement_row-eq13.true) c.made.ensures
+pub list-returns-then-is_none : goal.list-returns-then-is_none
+list-returns-then-is_none t c = list_spare c.stmt-at.ensures (rw c.stmt-at.ensures.on.kept at c.loop-u.invariant) c.if-w-ne12.false c.word_from-v.ensures (sym c.statement_row.ensures ∙ no_row c.statement_row.result (ap not (c.is_none.ensures ∙ ap not c.if-is_none.true))) c.made.ensures
 
 pub list-stmt-at-requires-in-loop-u : goal.list-stmt-at-requires-in-loop-u
 list-stmt-at-requires-in-loop-u t c = (omega (arith, c.decreases), record { near = c.word_from-v.ensures.near; few = c.requires.few })
@@ -146,7 +149,7 @@ pub list-loop-u-smaller : goal.list-loop-u-smaller
 list-loop-u-smaller t c = omega (arith, c.loop-u.invariant.on.near.more (omega (arith, c.if-w-ne12.false)), c.loop-u.invariant.on.near.inside, c.word_from-v.ensures.later, c.stmt-at-in-loop-u.ensures.on.later)
 
 pub list-loop-u-preserved : goal.list-loop-u-preserved
-list-loop-u-preserved t c = list_on c.if-w-ne12.false c.word_from-v.ensures (λ e. c.if-statement_row-eq13.false (c.statement_row.ensures ∙ e)) (rw c.loop-u.invariant.on.kept at c.stmt-at-in-loop-u.ensures) c.loop-u.invariant
+list-loop-u-preserved t c = list_on c.if-w-ne12.false c.word_from-v.ensures (λ e. some_row c.statement_row.result (ap not (c.is_none.ensures ∙ ap not c.if-is_none.false)) (c.statement_row.ensures ∙ e)) (rw c.loop-u.invariant.on.kept at c.stmt-at-in-loop-u.ensures) c.loop-u.invariant
 
 pub loop_always-word_from-second-requires : goal.loop_always-word_from-second-requires
 loop_always-word_from-second-requires t c = (c.requires.1.near.short, c.requires.1.near.inside)
@@ -226,69 +229,6 @@ parallel-shape_of-t t c = on_long c.branches-c.ensures.on ∙ on_long c.branch-b
 pub parallel-returns : goal.parallel-returns
 parallel-returns t c = parallel-came c.requires.1.near c.deeper-inner.ensures c.begun.ensures c.deep-k.ensures c.word_from-second.ensures c.with_acts-o.ensures c.branch-a.ensures c.word_from-other.ensures (rw c.branch-a.ensures.on.kept at c.branch-b.ensures) (rw (c.branch-b.ensures.on.kept ∙ c.branch-a.ensures.on.kept) at c.branches-c.ensures) c.word_from.ensures c.together.ensures c.made.ensures
 
-pub stmt-plain-requires : goal.stmt-plain-requires
-stmt-plain-requires t c = (c.requires.near, sym c.is_plain.ensures ∙ c.if-is_plain.true)
-
-pub stmt-returns-then-is_plain : goal.stmt-returns-then-is_plain
-stmt-returns-then-is_plain t c = one_bare c.statement_row-row.ensures (c.plain.ensures _ _ _)
-
-pub stmt-named-requires : goal.stmt-named-requires
-stmt-named-requires t c = (omega (arith, c.decreases), c.requires)
-
-pub stmt-shape_of-t-then-row-eq5 : goal.stmt-shape_of-t-then-row-eq5
-stmt-shape_of-t-then-row-eq5 t c = on_long c.named.ensures.on
-
-pub stmt-returns-then-row-eq5 : goal.stmt-returns-then-row-eq5
-stmt-returns-then-row-eq5 t c = one-row c.statement_row-row.ensures c.if-row-eq5.true c.named.ensures
-
-pub stmt-returns-then-levels-eq0 : goal.stmt-returns-then-levels-eq0
-stmt-returns-then-levels-eq0 t c = one_none c.statement_row-row.ensures c.requires.near (sym c.is_plain.ensures ∙ c.if-is_plain.false) c.if-row-eq5.false c.if-levels-eq0.true c.made.ensures
-
-pub stmt-while_loop-requires : goal.stmt-while_loop-requires
-stmt-while_loop-requires t c = (omega (arith, c.decreases), (omega (arith, c.if-levels-eq0.false), c.requires))
-
-pub stmt-shape_of-t-then-row-eq7 : goal.stmt-shape_of-t-then-row-eq7
-stmt-shape_of-t-then-row-eq7 t c = on_long c.while_loop.ensures.on
-
-pub stmt-returns-then-row-eq7 : goal.stmt-returns-then-row-eq7
-stmt-returns-then-row-eq7 t c = one-row c.statement_row-row.ensures c.if-row-eq7.true c.while_loop.ensures
-
-pub stmt-loop_always-requires : goal.stmt-loop_always-requires
-stmt-loop_always-requires t c = (omega (arith, c.decreases), (omega (arith, c.if-levels-eq0.false), c.requires))
-
-pub stmt-shape_of-t-then-row-eq8 : goal.stmt-shape_of-t-then-row-eq8
-stmt-shape_of-t-then-row-eq8 t c = on_long c.loop_always.ensures.on
-
-pub stmt-returns-then-row-eq8 : goal.stmt-returns-then-row-eq8
-stmt-returns-then-row-eq8 t c = one-row c.statement_row-row.ensures c.if-row-eq8.true c.loop_always.ensures
-
-pub stmt-switch-requires : goal.stmt-switch-requires
-stmt-switch-requires t c = (omega (arith, c.decreases), (omega (arith, c.if-levels-eq0.false), c.requires))
-
-pub stmt-shape_of-t-then-row-eq10 : goal.stmt-shape_of-t-then-row-eq10
-stmt-shape_of-t-then-row-eq10 t c = on_long c.switch.ensures.on
-
-pub stmt-returns-then-row-eq10 : goal.stmt-returns-then-row-eq10
-stmt-returns-then-row-eq10 t c = one-row c.statement_row-row.ensures c.if-row-eq10.true c.switch.ensures
-
-pub stmt-parallel-requires : goal.stmt-parallel-requires
-stmt-parallel-requires t c = (omega (arith, c.decreases), (omega (arith, c.if-levels-eq0.false), c.requires))
-
-pub stmt-shape_of-t-then-row-eq12 : goal.stmt-shape_of-t-then-row-eq12
-stmt-shape_of-t-then-row-eq12 t c = on_long c.parallel.ensures.on
-
-pub stmt-returns-then-row-eq12 : goal.stmt-returns-then-row-eq12
-stmt-returns-then-row-eq12 t c = one-row c.statement_row-row.ensures c.if-row-eq12.true c.parallel.ensures
-
-pub stmt-choice-requires : goal.stmt-choice-requires
-stmt-choice-requires t c = (omega (arith, c.decreases), (omega (arith, c.if-levels-eq0.false), c.requires))
-
-pub stmt-shape_of-t : goal.stmt-shape_of-t
-stmt-shape_of-t t c = on_long c.choice.ensures.on
-
-pub stmt-returns : goal.stmt-returns
-stmt-returns t c = one_if c.statement_row-row.ensures (sym c.is_plain.ensures ∙ c.if-is_plain.false) c.if-row-eq5.false c.if-row-eq7.false c.if-row-eq8.false c.if-row-eq10.false c.if-row-eq12.false c.choice.ensures
-
 pub switch-word_from-second-requires : goal.switch-word_from-second-requires
 switch-word_from-second-requires t c = (c.requires.1.near.short, c.requires.1.near.inside)
 
@@ -342,3 +282,51 @@ while_loop-shape_of-t t c = on_long c.list-a.ensures.on
 
 pub while_loop-returns : goal.while_loop-returns
 while_loop-returns t c = while-came c.requires.1.near c.deeper-inner.ensures c.begun.ensures c.deep-k.ensures c.word_from-second.ensures c.test-g.ensures c.word_from-body.ensures c.list-a.ensures c.word_from.ensures c.made.ensures
+
+pub stmt-plain-requires : goal.stmt-plain-requires
+stmt-plain-requires t c = c.requires.near
+
+pub stmt-returns-in-Some-Plain : goal.stmt-returns-in-Some-Plain
+stmt-returns-in-Some-Plain t c = one_bare (rw c.in-Some-Plain.field-0-is at c.in-Some-Plain.ensures) (c.plain.ensures _ _ _)
+
+pub stmt-named-requires : goal.stmt-named-requires
+stmt-named-requires t c = (omega (arith, c.decreases), c.requires)
+
+pub stmt-returns-in-Some-Name : goal.stmt-returns-in-Some-Name
+stmt-returns-in-Some-Name t c = one-row (rw c.in-Some-Name.field-0-is at c.in-Some-Name.ensures) refl c.named.ensures
+
+pub stmt-returns-in-None : goal.stmt-returns-in-None
+stmt-returns-in-None t c = one_other c.in-None.ensures refl c.requires.near c.made.ensures
+
+pub stmt-returns-then-levels-eq0 : goal.stmt-returns-then-levels-eq0
+stmt-returns-then-levels-eq0 t c = one_none (rw c.in-Some-Around.field-0-is at c.in-Some-Around.ensures) c.requires.near (around_row c.in-Some-Around.row).0 (around_row c.in-Some-Around.row).1 c.if-levels-eq0.true c.made-then-levels-eq0.ensures
+
+pub stmt-choice-requires : goal.stmt-choice-requires
+stmt-choice-requires t c = (omega (arith, c.decreases), (omega (arith, c.if-levels-eq0.false), c.requires))
+
+pub stmt-returns-in-If : goal.stmt-returns-in-If
+stmt-returns-in-If t c = one-row (rw c.in-Some-Around.field-0-is at c.in-Some-Around.ensures) (ap around_number c.in-If.is) c.choice.ensures
+
+pub stmt-while_loop-requires : goal.stmt-while_loop-requires
+stmt-while_loop-requires t c = (omega (arith, c.decreases), (omega (arith, c.if-levels-eq0.false), c.requires))
+
+pub stmt-returns-in-While : goal.stmt-returns-in-While
+stmt-returns-in-While t c = one-row (rw c.in-Some-Around.field-0-is at c.in-Some-Around.ensures) (ap around_number c.in-While.is) c.while_loop.ensures
+
+pub stmt-loop_always-requires : goal.stmt-loop_always-requires
+stmt-loop_always-requires t c = (omega (arith, c.decreases), (omega (arith, c.if-levels-eq0.false), c.requires))
+
+pub stmt-returns-in-Loop : goal.stmt-returns-in-Loop
+stmt-returns-in-Loop t c = one-row (rw c.in-Some-Around.field-0-is at c.in-Some-Around.ensures) (ap around_number c.in-Loop.is) c.loop_always.ensures
+
+pub stmt-switch-requires : goal.stmt-switch-requires
+stmt-switch-requires t c = (omega (arith, c.decreases), (omega (arith, c.if-levels-eq0.false), c.requires))
+
+pub stmt-returns-in-Switch : goal.stmt-returns-in-Switch
+stmt-returns-in-Switch t c = one-row (rw c.in-Some-Around.field-0-is at c.in-Some-Around.ensures) (ap around_number c.in-Switch.is) c.switch.ensures
+
+pub stmt-parallel-requires : goal.stmt-parallel-requires
+stmt-parallel-requires t c = (omega (arith, c.decreases), (omega (arith, c.if-levels-eq0.false), c.requires))
+
+pub stmt-returns-in-Parallel : goal.stmt-returns-in-Parallel
+stmt-returns-in-Parallel t c = one-row (rw c.in-Some-Around.field-0-is at c.in-Some-Around.ensures) (ap around_number c.in-Parallel.is) c.parallel.ensures

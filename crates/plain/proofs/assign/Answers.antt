@@ -19,4 +19,4 @@ shape_of-t c =
 
 pub returns : goal.returns
 returns c =
-    λ l b. plain_assign c.requires.2.near c.told-p.ensures c.begun-m.ensures c.requires.1 c.meant.result c.requires.2.few refl c.requires.0 c.meant.ensures c.name_of-to.ensures c.word_from-third.ensures (summed c.expr-x.ensures) (rw c.expr-x.ensures.kept at c.find-v.ensures) c.number_of-low.ensures c.width_of-width.ensures c.assigned-k.ensures c.finish.ensures
+    λ l b. plain_assign c.requires.2.near c.told-p.ensures c.begun-m.ensures c.requires.1 c.meant.result c.requires.2.few refl c.requires.0 c.meant.ensures c.name_of-to.ensures c.word_from-third.ensures (summed c.expr-x.ensures) (rw c.expr-x.ensures.kept at c.find-v.ensures) c.number_of-low.ensures c.width_of-width.ensures c.assigned-k.ensures (rw c.from.ensures at c.finish.ensures)

@@ -1,28 +1,31 @@
 -- `plain::plain` meets its contract.
 -- Assumes nothing.
-use Rattle.plain.proofs.Laws.{plain_rows, plain_skip, plain_exit, plain_break, plain_delay}
+use mathlib.Core.Path.{ap}
+use Rattle.tiers.specs.Choose.{plain_number}
+use Rattle.plain.proofs.Laws.{plain_skip, plain_exit, plain_break, plain_delay}
 use Rattle.plain.proofs.plain.Goals as goal
 
-pub returns-then-row-eq0 : goal.returns-then-row-eq0
-returns-then-row-eq0 c =
-    plain_skip c.requires.1.near c.told-p.ensures c.begun-m.ensures c.word_from-second.ensures c.if-row-eq0.true c.finish.ensures
+pub returns-in-Skip : goal.returns-in-Skip
+returns-in-Skip c =
+    plain_skip c.requires.near c.told-p.ensures c.begun-m.ensures c.word_from-second.ensures (ap plain_number c.in-Skip.is) c.finish.ensures
 
-pub returns-then-row-eq9 : goal.returns-then-row-eq9
-returns-then-row-eq9 c =
-    plain_exit c.requires.1.near c.told-p.ensures c.begun-m.ensures c.word_from-second.ensures c.if-row-eq9.true c.leaves-k.ensures c.finish-then-row-eq9.ensures
+pub returns-in-Exit : goal.returns-in-Exit
+returns-in-Exit c =
+    plain_exit c.requires.near c.told-p.ensures c.begun-m.ensures c.word_from-second.ensures (ap plain_number c.in-Exit.is) c.leaves-k.ensures c.finish-in-Exit.ensures
 
-pub returns-then-row-eq11 : goal.returns-then-row-eq11
-returns-then-row-eq11 c =
-    plain_break c.requires.1.near c.told-p.ensures c.begun-m.ensures c.word_from-second.ensures c.if-row-eq11.true c.leaves-k-then-row-eq11.ensures c.finish-then-row-eq11.ensures
+pub returns-in-Break : goal.returns-in-Break
+returns-in-Break c =
+    plain_break c.requires.near c.told-p.ensures c.begun-m.ensures c.word_from-second.ensures (ap plain_number c.in-Break.is) c.leaves-k-in-Break.ensures c.finish-in-Break.ensures
 
-pub returns-then-row-eq1 : goal.returns-then-row-eq1
-returns-then-row-eq1 c =
-    plain_delay c.requires.1.near c.told-p.ensures c.begun-m.ensures c.word_from-second.ensures c.if-row-eq1.true c.word_from-after.ensures c.told-q.ensures c.delayed-k.ensures c.finish-then-row-eq1.ensures
+pub returns-in-Delay : goal.returns-in-Delay
+returns-in-Delay c =
+    plain_delay c.requires.near c.told-p.ensures c.begun-m.ensures c.word_from-second.ensures (ap plain_number c.in-Delay.is) c.word_from-after.ensures c.told-q.ensures c.delayed-k.ensures c.finish-in-Delay.ensures
 
-pub change-requires : goal.change-requires
-change-requires c =
-    let (low, high) = plain_rows c.requires.0 c.if-row-eq0.false c.if-row-eq1.false c.if-row-eq9.false c.if-row-eq11.false in (low, high, c.requires.1)
+pub returns-in-Raise : goal.returns-in-Raise
+returns-in-Raise c = rw c.in-Raise.is (c.change.ensures _ _)
 
-pub returns : goal.returns
-returns c =
-    c.change.ensures _ _
+pub returns-in-Lower : goal.returns-in-Lower
+returns-in-Lower c = rw c.in-Lower.is (c.change-in-Lower.ensures _ _)
+
+pub returns-in-Invert : goal.returns-in-Invert
+returns-in-Invert c = rw c.in-Invert.is (c.change-in-Invert.ensures _ _)

@@ -1,11 +1,13 @@
 -- The readers of statements, lists, cases, branches and calls meet their contracts: one law at each way on. The procedures that can be called fall with each call, the levels left with each statement inside another.
 -- Assumes nothing.
-use mathlib.Core.Bool.{true}
+use mathlib.Core.Bool.{true, not}
 use mathlib.Core.Path.{refl, sym, ap, ◌∙◌}
 use native.Mathlib.Omega.{arith}
 use Rattle.parts.specs.Beside.{Beside, beside}
 use Rattle.parts.proofs.Beside.{same_size}
-use Rattle.stmts.proofs.Laws.{one-row, one_none, one_if, loop-came, switch-came, parallel-came, while-came, if_came, else_came}
+use Rattle.tiers.specs.Choose.{around_number}
+use Rattle.tiers.proofs.Coded.{around_row, some_row, no_row}
+use Rattle.stmts.proofs.Laws.{one-row, one_none, one_other, loop-came, switch-came, parallel-came, while-came, if_came, else_came}
 use Rattle.stmts.proofs.Lists.{list-start, list-ends, list_spare, list_on, case-came, cases_start, cases_end, cases_on, branch_came, branches_start, branches_end, branches_on}
 use Rattle.frames.specs.declared.Under.{Under}
 use Rattle.stmts.proofs.Calls.{call-named, outermost-named, call-refused, call-expanded, still-listed, wrote_none, wrote_frame, outermost_over, outermost-flat, outermost-deep}
@@ -28,14 +30,14 @@ pub branches-loop-at-init : goal.branches-loop-at-init
 branches-loop-at-init t c =
     branches_start (rw c.made-at.ensures.0 c.requires.near)
 
-pub branches-shape_of-t-then-at-ne2 : goal.branches-shape_of-t-then-at-ne2
+pub branches-shape_of-t-then-at-ne-BARS : goal.branches-shape_of-t-then-at-ne-BARS
 unfolding beside
-branches-shape_of-t-then-at-ne2 t c =
+branches-shape_of-t-then-at-ne-BARS t c =
     same_size c.loop-at.invariant.on.kept
 
-pub branches-returns-then-at-ne2 : goal.branches-returns-then-at-ne2
-branches-returns-then-at-ne2 t c =
-    branches_end c.made-at.ensures.0 c.made-at.ensures.1 c.if-at-ne2.true c.loop-at.invariant
+pub branches-returns-then-at-ne-BARS : goal.branches-returns-then-at-ne-BARS
+branches-returns-then-at-ne-BARS t c =
+    branches_end c.made-at.ensures.0 c.made-at.ensures.1 c.if-at-ne-BARS.true c.loop-at.invariant
 
 pub branches-word_from-v-requires : goal.branches-word_from-v-requires
 branches-word_from-v-requires t c =
@@ -47,11 +49,11 @@ branches-branch-at-requires t c =
 
 pub branches-loop-at-smaller : goal.branches-loop-at-smaller
 branches-loop-at-smaller t c =
-    omega (arith, c.loop-at.invariant.on.near.more (omega (arith, c.if-at-ne2.false)), c.word_from-v.ensures.later, c.branch-at.ensures.on.later, c.branch-at.ensures.on.near.on, c.branch-at.ensures.on.near.inside)
+    omega (arith, c.loop-at.invariant.on.near.more (omega (arith, c.if-at-ne-BARS.false)), c.word_from-v.ensures.later, c.branch-at.ensures.on.later, c.branch-at.ensures.on.near.on, c.branch-at.ensures.on.near.inside)
 
 pub branches-loop-at-preserved : goal.branches-loop-at-preserved
 branches-loop-at-preserved t c =
-    branches_on c.if-at-ne2.false c.word_from-v.ensures (rw c.loop-at.invariant.on.kept at c.branch-at.ensures) c.loop-at.invariant
+    branches_on c.if-at-ne-BARS.false c.word_from-v.ensures (rw c.loop-at.invariant.on.kept at c.branch-at.ensures) c.loop-at.invariant
 
 pub call-enter-e-requires : goal.call-enter-e-requires
 call-enter-e-requires t c =
@@ -83,14 +85,14 @@ pub cases-loop-at-init : goal.cases-loop-at-init
 cases-loop-at-init t c =
     cases_start (rw c.made-at.ensures.0 c.requires.near)
 
-pub cases-shape_of-t-then-at-ne50 : goal.cases-shape_of-t-then-at-ne50
+pub cases-shape_of-t-then-at-ne-CASE : goal.cases-shape_of-t-then-at-ne-CASE
 unfolding beside
-cases-shape_of-t-then-at-ne50 t c =
+cases-shape_of-t-then-at-ne-CASE t c =
     same_size c.loop-at.invariant.on.kept
 
-pub cases-returns-then-at-ne50 : goal.cases-returns-then-at-ne50
-cases-returns-then-at-ne50 t c =
-    cases_end c.made-at.ensures.0 c.made-at.ensures.1 c.if-at-ne50.true c.loop-at.invariant
+pub cases-returns-then-at-ne-CASE : goal.cases-returns-then-at-ne-CASE
+cases-returns-then-at-ne-CASE t c =
+    cases_end c.made-at.ensures.0 c.made-at.ensures.1 c.if-at-ne-CASE.true c.loop-at.invariant
 
 pub cases-one_case-at-requires : goal.cases-one_case-at-requires
 cases-one_case-at-requires t c =
@@ -98,11 +100,11 @@ cases-one_case-at-requires t c =
 
 pub cases-loop-at-smaller : goal.cases-loop-at-smaller
 cases-loop-at-smaller t c =
-    omega (arith, c.loop-at.invariant.on.near.more (omega (arith, c.if-at-ne50.false)), c.one_case-at.ensures.past, c.one_case-at.ensures.on.near.on, c.one_case-at.ensures.on.near.inside)
+    omega (arith, c.loop-at.invariant.on.near.more (omega (arith, c.if-at-ne-CASE.false)), c.one_case-at.ensures.past, c.one_case-at.ensures.on.near.on, c.one_case-at.ensures.on.near.inside)
 
 pub cases-loop-at-preserved : goal.cases-loop-at-preserved
 cases-loop-at-preserved t c =
-    cases_on c.if-at-ne50.false (rw c.loop-at.invariant.on.kept at c.one_case-at.ensures) c.loop-at.invariant
+    cases_on c.if-at-ne-CASE.false (rw c.loop-at.invariant.on.kept at c.one_case-at.ensures) c.loop-at.invariant
 
 pub choice-word_from-second-requires : goal.choice-word_from-second-requires
 choice-word_from-second-requires t c =
@@ -124,14 +126,14 @@ pub choice-word_from-next-requires : goal.choice-word_from-next-requires
 choice-word_from-next-requires t c =
     (c.requires.1.near.short, c.list-a.ensures.on.near.inside)
 
-pub choice-shape_of-t-then-a-ne42 : goal.choice-shape_of-t-then-a-ne42
+pub choice-shape_of-t-then-a-ne-ELSE : goal.choice-shape_of-t-then-a-ne-ELSE
 unfolding beside
-choice-shape_of-t-then-a-ne42 t c =
+choice-shape_of-t-then-a-ne-ELSE t c =
     same_size (c.finish.ensures.kept ∙ c.list-a.ensures.on.kept ∙ c.test-g.ensures.on.kept)
 
-pub choice-returns-then-a-ne42 : goal.choice-returns-then-a-ne42
-choice-returns-then-a-ne42 t c =
-    if_came c.requires.1.few c.requires.1.near c.told-p.ensures c.begun-m.ensures c.word_from-second.ensures c.test-g.ensures (rw c.test-g.ensures.on.kept at c.list-a.ensures) c.word_from-next.ensures c.if-a-ne42.true c.finish.ensures
+pub choice-returns-then-a-ne-ELSE : goal.choice-returns-then-a-ne-ELSE
+choice-returns-then-a-ne-ELSE t c =
+    if_came c.requires.1.few c.requires.1.near c.told-p.ensures c.begun-m.ensures c.word_from-second.ensures c.test-g.ensures (rw c.test-g.ensures.on.kept at c.list-a.ensures) c.word_from-next.ensures c.if-a-ne-ELSE.true (rw c.from.ensures at c.finish.ensures)
 
 pub choice-list-b-requires : goal.choice-list-b-requires
 choice-list-b-requires t c =
@@ -148,7 +150,7 @@ choice-shape_of-t t c =
 
 pub choice-returns : goal.choice-returns
 choice-returns t c =
-    else_came c.requires.1.few c.requires.1.near c.told-p.ensures c.begun-m.ensures c.word_from-second.ensures c.test-g.ensures (rw c.test-g.ensures.on.kept at c.list-a.ensures) c.word_from-next.ensures c.if-a-ne42.false (rw (c.list-a.ensures.on.kept ∙ c.test-g.ensures.on.kept) at c.list-b.ensures) c.word_from-end.ensures c.finish-2.ensures
+    else_came c.requires.1.few c.requires.1.near c.told-p.ensures c.begun-m.ensures c.word_from-second.ensures c.test-g.ensures (rw c.test-g.ensures.on.kept at c.list-a.ensures) c.word_from-next.ensures c.if-a-ne-ELSE.false (rw (c.list-a.ensures.on.kept ∙ c.test-g.ensures.on.kept) at c.list-b.ensures) c.word_from-end.ensures (rw c.from-2.ensures at c.finish-2.ensures)
 
 pub list-stmt-at-requires : goal.list-stmt-at-requires
 list-stmt-at-requires t c =
@@ -158,27 +160,27 @@ pub list-loop-at-init : goal.list-loop-at-init
 list-loop-at-init t c =
     list-start (rw (← c.stmt-at.ensures.on.kept) at c.stmt-at.ensures)
 
-pub list-shape_of-t-then-at-ne12 : goal.list-shape_of-t-then-at-ne12
+pub list-shape_of-t-then-at-ne-SEMICOLON : goal.list-shape_of-t-then-at-ne-SEMICOLON
 unfolding beside
-list-shape_of-t-then-at-ne12 t c =
+list-shape_of-t-then-at-ne-SEMICOLON t c =
     same_size (c.loop-at.invariant.on.kept ∙ c.stmt-at.ensures.on.kept)
 
-pub list-returns-then-at-ne12 : goal.list-returns-then-at-ne12
-list-returns-then-at-ne12 t c =
-    list-ends c.stmt-at.ensures (rw c.stmt-at.ensures.on.kept at c.loop-at.invariant) c.if-at-ne12.true
+pub list-returns-then-at-ne-SEMICOLON : goal.list-returns-then-at-ne-SEMICOLON
+list-returns-then-at-ne-SEMICOLON t c =
+    list-ends c.stmt-at.ensures (rw c.stmt-at.ensures.on.kept at c.loop-at.invariant) c.if-at-ne-SEMICOLON.true
 
 pub list-word_from-v-requires : goal.list-word_from-v-requires
 list-word_from-v-requires t c =
     (c.requires.near.short, c.loop-at.invariant.on.near.inside)
 
-pub list-shape_of-t-then-statement_row-eq13 : goal.list-shape_of-t-then-statement_row-eq13
+pub list-shape_of-t-then-is_none : goal.list-shape_of-t-then-is_none
 unfolding beside
-list-shape_of-t-then-statement_row-eq13 t c =
+list-shape_of-t-then-is_none t c =
     same_size (c.loop-at.invariant.on.kept ∙ c.stmt-at.ensures.on.kept)
 
-pub list-returns-then-statement_row-eq13 : goal.list-returns-then-statement_row-eq13
-list-returns-then-statement_row-eq13 t c =
-    list_spare c.stmt-at.ensures (rw c.stmt-at.ensures.on.kept at c.loop-at.invariant) c.if-at-ne12.false c.word_from-v.ensures (sym c.statement_row.ensures ∙ c.if-statement_row-eq13.true) c.made.ensures.0 c.made.ensures.1
+pub list-returns-then-is_none : goal.list-returns-then-is_none
+list-returns-then-is_none t c =
+    list_spare c.stmt-at.ensures (rw c.stmt-at.ensures.on.kept at c.loop-at.invariant) c.if-at-ne-SEMICOLON.false c.word_from-v.ensures (sym c.statement_row.ensures ∙ no_row c.statement_row.result (ap not (c.is_none.ensures ∙ ap not c.if-is_none.true))) c.made.ensures.0 c.made.ensures.1
 
 pub list-stmt-at-requires-in-loop-at : goal.list-stmt-at-requires-in-loop-at
 list-stmt-at-requires-in-loop-at t c =
@@ -186,11 +188,11 @@ list-stmt-at-requires-in-loop-at t c =
 
 pub list-loop-at-smaller : goal.list-loop-at-smaller
 list-loop-at-smaller t c =
-    omega (arith, c.loop-at.invariant.on.near.more (omega (arith, c.if-at-ne12.false)), c.word_from-v.ensures.later, c.stmt-at-in-loop-at.ensures.on.later, c.stmt-at-in-loop-at.ensures.on.near.on, c.stmt-at-in-loop-at.ensures.on.near.inside)
+    omega (arith, c.loop-at.invariant.on.near.more (omega (arith, c.if-at-ne-SEMICOLON.false)), c.word_from-v.ensures.later, c.stmt-at-in-loop-at.ensures.on.later, c.stmt-at-in-loop-at.ensures.on.near.on, c.stmt-at-in-loop-at.ensures.on.near.inside)
 
 pub list-loop-at-preserved : goal.list-loop-at-preserved
 list-loop-at-preserved t c =
-    list_on c.if-at-ne12.false c.word_from-v.ensures (λ e. c.if-statement_row-eq13.false (c.statement_row.ensures ∙ e)) (rw c.loop-at.invariant.on.kept at c.stmt-at-in-loop-at.ensures) c.loop-at.invariant
+    list_on c.if-at-ne-SEMICOLON.false c.word_from-v.ensures (λ e. some_row c.statement_row.result (ap not (c.is_none.ensures ∙ ap not c.if-is_none.false)) (c.statement_row.ensures ∙ e)) (rw c.loop-at.invariant.on.kept at c.stmt-at-in-loop-at.ensures) c.loop-at.invariant
 
 pub loop_always-word_from-second-requires : goal.loop_always-word_from-second-requires
 loop_always-word_from-second-requires t c =
@@ -223,15 +225,15 @@ named-word_from-second-requires t c =
 
 pub named-assign-requires : goal.named-assign-requires
 named-assign-requires t c =
-    (c.if-second-ne14.true, c.word_from-second.ensures, c.requires)
+    (c.if-second-ne-OPEN.true, c.word_from-second.ensures, c.requires)
 
-pub named-shape_of-t-then-second-ne14 : goal.named-shape_of-t-then-second-ne14
+pub named-shape_of-t-then-second-ne-OPEN : goal.named-shape_of-t-then-second-ne-OPEN
 unfolding beside
-named-shape_of-t-then-second-ne14 t c =
+named-shape_of-t-then-second-ne-OPEN t c =
     same_size (c.assign.ensures true true).on.kept
 
-pub named-returns-then-second-ne14 : goal.named-returns-then-second-ne14
-named-returns-then-second-ne14 t c =
+pub named-returns-then-second-ne-OPEN : goal.named-returns-then-second-ne-OPEN
+named-returns-then-second-ne-OPEN t c =
     c.assign.ensures _ _
 
 pub named-call-requires : goal.named-call-requires
@@ -245,7 +247,7 @@ named-shape_of-t-then-u-lt65535 t c =
 
 pub named-returns-then-u-lt65535 : goal.named-returns-then-u-lt65535
 named-returns-then-u-lt65535 t c =
-    call-named c.requires.few c.word_from-second.ensures c.if-second-ne14.false c.if-u-lt65535.true c.call.ensures
+    call-named c.requires.few c.word_from-second.ensures c.if-second-ne-OPEN.false c.if-u-lt65535.true c.call.ensures
 
 pub named-outermost-requires : goal.named-outermost-requires
 named-outermost-requires t c =
@@ -258,7 +260,7 @@ named-shape_of-t t c =
 
 pub named-returns : goal.named-returns
 named-returns t c =
-    outermost-named c.requires.few c.word_from-second.ensures c.if-second-ne14.false (λ h. omega (arith, h, c.if-u-lt65535.false)) c.outermost.ensures
+    outermost-named c.requires.few c.word_from-second.ensures c.if-second-ne-OPEN.false (λ h. omega (arith, h, c.if-u-lt65535.false)) c.outermost.ensures
 
 pub one_case-word_from-second-requires : goal.one_case-word_from-second-requires
 one_case-word_from-second-requires t c =
@@ -279,7 +281,7 @@ one_case-shape_of-t t c =
 
 pub one_case-returns : goal.one_case-returns
 one_case-returns t c =
-    case-came c.requires.few c.requires.near c.told-p.ensures c.cased-m.ensures c.word_from-second.ensures c.test-g.ensures (rw c.test-g.ensures.on.kept at c.list-a.ensures) c.finish.ensures
+    case-came c.requires.few c.requires.near c.told-p.ensures c.cased-m.ensures c.word_from-second.ensures c.test-g.ensures (rw c.test-g.ensures.on.kept at c.list-a.ensures) (rw c.from.ensures at c.finish.ensures)
 
 pub outermost-overflow_sub-levels : goal.outermost-overflow_sub-levels
 outermost-overflow_sub-levels t c =
@@ -357,101 +359,6 @@ pub parallel-returns : goal.parallel-returns
 parallel-returns t c =
     λ b. parallel-came c.requires.1.few c.requires.1.near c.told-p.ensures c.begun-m.ensures c.word_from-second.ensures c.with_acts-o.ensures c.branch-a.ensures c.word_from-other.ensures (rw c.branch-a.ensures.on.kept at c.branch-b.ensures) (rw (c.branch-b.ensures.on.kept ∙ c.branch-a.ensures.on.kept) at c.branches-c.ensures) c.word_from-next.ensures c.together-n.ensures c.finish.ensures
 
-pub stmt-plain-requires : goal.stmt-plain-requires
-stmt-plain-requires t c =
-    (sym c.is_plain.ensures ∙ c.if-is_plain.true, c.requires)
-
-pub stmt-shape_of-t-then-is_plain : goal.stmt-shape_of-t-then-is_plain
-unfolding beside
-stmt-shape_of-t-then-is_plain t c =
-    same_size c.plain.ensures.on.kept
-
-pub stmt-returns-then-is_plain : goal.stmt-returns-then-is_plain
-stmt-returns-then-is_plain t c =
-    one-row c.statement_row-row.ensures refl c.plain.ensures
-
-pub stmt-named-requires : goal.stmt-named-requires
-stmt-named-requires t c =
-    (omega (arith, c.decreases), c.requires)
-
-pub stmt-shape_of-t-then-row-eq5 : goal.stmt-shape_of-t-then-row-eq5
-unfolding beside
-stmt-shape_of-t-then-row-eq5 t c =
-    same_size c.named.ensures.on.kept
-
-pub stmt-returns-then-row-eq5 : goal.stmt-returns-then-row-eq5
-stmt-returns-then-row-eq5 t c =
-    one-row c.statement_row-row.ensures c.if-row-eq5.true c.named.ensures
-
-pub stmt-returns-then-levels-eq0 : goal.stmt-returns-then-levels-eq0
-stmt-returns-then-levels-eq0 t c =
-    one_none c.statement_row-row.ensures c.requires.near (sym c.is_plain.ensures ∙ c.if-is_plain.false) c.if-row-eq5.false c.if-levels-eq0.true c.made.ensures.0
-
-pub stmt-while_loop-requires : goal.stmt-while_loop-requires
-stmt-while_loop-requires t c =
-    (omega (arith, c.decreases), (omega (arith, c.if-levels-eq0.false), c.requires))
-
-pub stmt-shape_of-t-then-row-eq7 : goal.stmt-shape_of-t-then-row-eq7
-unfolding beside
-stmt-shape_of-t-then-row-eq7 t c =
-    same_size (c.while_loop.ensures true).on.kept
-
-pub stmt-returns-then-row-eq7 : goal.stmt-returns-then-row-eq7
-stmt-returns-then-row-eq7 t c =
-    one-row c.statement_row-row.ensures c.if-row-eq7.true (c.while_loop.ensures _)
-
-pub stmt-loop_always-requires : goal.stmt-loop_always-requires
-stmt-loop_always-requires t c =
-    (omega (arith, c.decreases), (omega (arith, c.if-levels-eq0.false), c.requires))
-
-pub stmt-shape_of-t-then-row-eq8 : goal.stmt-shape_of-t-then-row-eq8
-unfolding beside
-stmt-shape_of-t-then-row-eq8 t c =
-    same_size (c.loop_always.ensures true).on.kept
-
-pub stmt-returns-then-row-eq8 : goal.stmt-returns-then-row-eq8
-stmt-returns-then-row-eq8 t c =
-    one-row c.statement_row-row.ensures c.if-row-eq8.true (c.loop_always.ensures _)
-
-pub stmt-switch-requires : goal.stmt-switch-requires
-stmt-switch-requires t c =
-    (omega (arith, c.decreases), (omega (arith, c.if-levels-eq0.false), c.requires))
-
-pub stmt-shape_of-t-then-row-eq10 : goal.stmt-shape_of-t-then-row-eq10
-unfolding beside
-stmt-shape_of-t-then-row-eq10 t c =
-    same_size (c.switch.ensures true).on.kept
-
-pub stmt-returns-then-row-eq10 : goal.stmt-returns-then-row-eq10
-stmt-returns-then-row-eq10 t c =
-    one-row c.statement_row-row.ensures c.if-row-eq10.true (c.switch.ensures _)
-
-pub stmt-parallel-requires : goal.stmt-parallel-requires
-stmt-parallel-requires t c =
-    (omega (arith, c.decreases), (omega (arith, c.if-levels-eq0.false), c.requires))
-
-pub stmt-shape_of-t-then-row-eq12 : goal.stmt-shape_of-t-then-row-eq12
-unfolding beside
-stmt-shape_of-t-then-row-eq12 t c =
-    same_size (c.parallel.ensures true).on.kept
-
-pub stmt-returns-then-row-eq12 : goal.stmt-returns-then-row-eq12
-stmt-returns-then-row-eq12 t c =
-    one-row c.statement_row-row.ensures c.if-row-eq12.true (c.parallel.ensures _)
-
-pub stmt-choice-requires : goal.stmt-choice-requires
-stmt-choice-requires t c =
-    (omega (arith, c.decreases), (omega (arith, c.if-levels-eq0.false), c.requires))
-
-pub stmt-shape_of-t : goal.stmt-shape_of-t
-unfolding beside
-stmt-shape_of-t t c =
-    same_size c.choice.ensures.on.kept
-
-pub stmt-returns : goal.stmt-returns
-stmt-returns t c =
-    one_if c.statement_row-row.ensures (sym c.is_plain.ensures ∙ c.if-is_plain.false) c.if-row-eq5.false c.if-row-eq7.false c.if-row-eq8.false c.if-row-eq10.false c.if-row-eq12.false c.choice.ensures
-
 pub switch-word_from-second-requires : goal.switch-word_from-second-requires
 switch-word_from-second-requires t c =
     (c.requires.1.near.short, c.requires.1.near.inside)
@@ -524,4 +431,68 @@ while_loop-shape_of-t t c =
 
 pub while_loop-returns : goal.while_loop-returns
 while_loop-returns t c =
-    λ l. while-came c.requires.1.few c.requires.1.near c.told-p.ensures c.begun-m.ensures c.word_from-second.ensures c.test-g.ensures c.word_from-body.ensures (rw c.test-g.ensures.on.kept at c.list-a.ensures) c.word_from-next.ensures c.finish.ensures
+    λ l. while-came c.requires.1.few c.requires.1.near c.told-p.ensures c.begun-m.ensures c.word_from-second.ensures c.test-g.ensures c.word_from-body.ensures (rw c.test-g.ensures.on.kept at c.list-a.ensures) c.word_from-next.ensures (rw c.from.ensures at c.finish.ensures)
+
+pub stmt-returns-in-Some-Plain : goal.stmt-returns-in-Some-Plain
+stmt-returns-in-Some-Plain t c =
+    one-row (rw c.in-Some-Plain.field-0-is at c.in-Some-Plain.ensures) refl c.plain.ensures
+
+pub stmt-plain-requires : goal.stmt-plain-requires
+stmt-plain-requires t c =
+    c.requires
+
+pub stmt-named-requires : goal.stmt-named-requires
+stmt-named-requires t c =
+    (omega (arith, c.decreases), c.requires)
+
+pub stmt-returns-in-Some-Name : goal.stmt-returns-in-Some-Name
+stmt-returns-in-Some-Name t c =
+    one-row (rw c.in-Some-Name.field-0-is at c.in-Some-Name.ensures) refl c.named.ensures
+
+pub stmt-returns-in-None : goal.stmt-returns-in-None
+stmt-returns-in-None t c =
+    one_other c.in-None.ensures refl c.requires.near c.made.ensures.0
+
+pub stmt-returns-then-levels-eq0 : goal.stmt-returns-then-levels-eq0
+stmt-returns-then-levels-eq0 t c =
+    one_none (rw c.in-Some-Around.field-0-is at c.in-Some-Around.ensures) c.requires.near (around_row c.in-Some-Around.row).0 (around_row c.in-Some-Around.row).1 c.if-levels-eq0.true c.made-then-levels-eq0.ensures.0
+
+pub stmt-choice-requires : goal.stmt-choice-requires
+stmt-choice-requires t c =
+    (omega (arith, c.decreases), (omega (arith, c.if-levels-eq0.false), c.requires))
+
+pub stmt-returns-in-If : goal.stmt-returns-in-If
+stmt-returns-in-If t c =
+    one-row (rw c.in-Some-Around.field-0-is at c.in-Some-Around.ensures) (ap around_number c.in-If.is) (c.choice.ensures)
+
+pub stmt-while_loop-requires : goal.stmt-while_loop-requires
+stmt-while_loop-requires t c =
+    (omega (arith, c.decreases), (omega (arith, c.if-levels-eq0.false), c.requires))
+
+pub stmt-returns-in-While : goal.stmt-returns-in-While
+stmt-returns-in-While t c =
+    one-row (rw c.in-Some-Around.field-0-is at c.in-Some-Around.ensures) (ap around_number c.in-While.is) (c.while_loop.ensures _)
+
+pub stmt-loop_always-requires : goal.stmt-loop_always-requires
+stmt-loop_always-requires t c =
+    (omega (arith, c.decreases), (omega (arith, c.if-levels-eq0.false), c.requires))
+
+pub stmt-returns-in-Loop : goal.stmt-returns-in-Loop
+stmt-returns-in-Loop t c =
+    one-row (rw c.in-Some-Around.field-0-is at c.in-Some-Around.ensures) (ap around_number c.in-Loop.is) (c.loop_always.ensures _)
+
+pub stmt-switch-requires : goal.stmt-switch-requires
+stmt-switch-requires t c =
+    (omega (arith, c.decreases), (omega (arith, c.if-levels-eq0.false), c.requires))
+
+pub stmt-returns-in-Switch : goal.stmt-returns-in-Switch
+stmt-returns-in-Switch t c =
+    one-row (rw c.in-Some-Around.field-0-is at c.in-Some-Around.ensures) (ap around_number c.in-Switch.is) (c.switch.ensures _)
+
+pub stmt-parallel-requires : goal.stmt-parallel-requires
+stmt-parallel-requires t c =
+    (omega (arith, c.decreases), (omega (arith, c.if-levels-eq0.false), c.requires))
+
+pub stmt-returns-in-Parallel : goal.stmt-returns-in-Parallel
+stmt-returns-in-Parallel t c =
+    one-row (rw c.in-Some-Around.field-0-is at c.in-Some-Around.ensures) (ap around_number c.in-Parallel.is) (c.parallel.ensures _)

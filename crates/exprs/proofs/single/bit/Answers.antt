@@ -1,6 +1,7 @@
 -- `exprs::single::bit` meets its contract.
 -- Assumes nothing.
 use mathlib.Core.Path.{refl}
+use mathlib.Core.Logic.{inl, inr}
 use Rattle.parts.specs.Beside.{beside}
 use Rattle.exprs.proofs.Laws.{plain_bit, plain_bit_of_bit, plain_bit_of_none}
 use Rattle.exprs.proofs.single.bit.Goals as goal
@@ -17,11 +18,8 @@ unfolding beside
 unknown-requires c = c.requires.0.listed
 
 pub returns-in-Bit : goal.returns-in-Bit
-returns-in-Bit c = plain_bit_of_bit c.requires.0.near c.requires.1 c.requires.2 c.word_from-number.ensures c.word_from-close.ensures c.word_from-last.ensures c.meant.result c.meant.ensures c.in-Bit.is refl c.unknown.ensures.0 (rw c.told-p.ensures at c.unknown.ensures.1)
-
-pub unknown-requires-in-Neither : goal.unknown-requires-in-Neither
-unfolding beside
-unknown-requires-in-Neither c = c.requires.0.listed
-
-pub returns-in-Neither : goal.returns-in-Neither
-returns-in-Neither c = plain_bit_of_none c.requires.0.near c.requires.1 c.requires.2 c.word_from-number.ensures c.word_from-close.ensures c.word_from-last.ensures c.meant.result c.meant.ensures c.in-Neither.is refl c.unknown-in-Neither.ensures.0 (rw c.told-p.ensures at c.unknown-in-Neither.ensures.1)
+returns-in-Bit c =
+    elim c.in-Bit.is [
+      | inl h ↦ plain_bit_of_bit c.requires.0.near c.requires.1 c.requires.2 c.word_from-number.ensures c.word_from-close.ensures c.word_from-last.ensures c.meant.result c.meant.ensures h.3 refl c.unknown.ensures.0 (rw c.told-p.ensures at c.unknown.ensures.1)
+      | inr e ↦ plain_bit_of_none c.requires.0.near c.requires.1 c.requires.2 c.word_from-number.ensures c.word_from-close.ensures c.word_from-last.ensures c.meant.result c.meant.ensures e refl c.unknown.ensures.0 (rw c.told-p.ensures at c.unknown.ensures.1)
+    ]

@@ -10,14 +10,6 @@ use Rattle.plain.proofs.stays.passing.Goals as goal
 pub loop-j-init : goal.loop-j-init
 loop-j-init c = idling_start
 
-pub overflow_add-j : goal.overflow_add-j
-overflow_add-j c =
-    omega (arith, c.loop-j-test.true, c.ranges.acts)
-
-pub loop-j-smaller : goal.loop-j-smaller
-loop-j-smaller c =
-    omega (arith, c.loop-j-test.true)
-
 pub loop-j-preserved : goal.loop-j-preserved
 loop-j-preserved c =
     idling_on c.loop-j-test.true c.idle-at.ensures c.loop-j.invariant
