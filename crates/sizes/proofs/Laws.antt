@@ -18,6 +18,8 @@ use Rattle.meaning.specs.Expansion.{Bound, actual_of, Form, one_name, one_bit, n
 use Rattle.language.specs.Words.{bytes, same}
 use Rattle.language.specs.Trees.{Name, Operator, operators, joined_by}
 use Rattle.hand.specs.declared.Here.{Here}
+use Rattle.hand.specs.Along.{Near, Begins}
+use Rattle.tiers.proofs.Laws.{bare_number, bare_true, bare_false}
 use Rattle.frames_law.specs.Frames.{Frames, formal_in, told_at, Framed, Stood}
 use Rattle.frames_law.proofs.Frames.{none_open, formal-stands}
 use Rattle.frames.specs.declared.Under.{Under}
@@ -26,7 +28,7 @@ use Rattle.frames.specs.Layout.{frames_of}
 use Rattle.frames.specs.Open.{parts_of, levels_of}
 use Rattle.frames.specs.Meant.{placed, formal_under, SizesOf}
 use Rattle.sizes.specs.declared.Extent.{Extent}
-use Rattle.sizes.specs.Counts.{Counts, CountsUnder, leaf_of, formal_of, over_of, inside_of, joined_of}
+use Rattle.sizes.specs.Counts.{Counts, CountsUnder, SizesBare, leaf_of, formal_of, over_of, inside_of, joined_of}
 
 -- ---- what each kind of term counts
 
@@ -164,3 +166,11 @@ module _ {s z : List ℕ} {u : Under} where
             let n = d.counts bound f h in
             record { parts = rw e (omega (arith, j.0, m.parts, n.parts)); levels = rw e (omega (arith, j.1, m.levels, n.levels)) };
       }
+
+-- a number, `true` or `false` is one part
+pub bare_leaf : {s : List ℕ} (t : List ℕ) {u : Under} {h a : Here} {r : Extent} (row : ℕ) → Near s h → Begins s h.next a → ¬ (row ≡ 0) → row < 4 → r ≡ leaf_of a → SizesBare s t u row h r
+bare_leaf t zero near b n l e = absurd (n refl)
+bare_leaf t (suc zero) near b n l e = bare_number near b refl (ap (λ (x : Extent). x.word) e) (literal_under e)
+bare_leaf t (suc (suc zero)) near b n l e = bare_true near b refl (ap (λ (x : Extent). x.word) e) (truth_under e)
+bare_leaf t (suc (suc (suc zero))) near b n l e = bare_false near b refl (ap (λ (x : Extent). x.word) e) (truth_under e)
+bare_leaf t (suc (suc (suc (suc row)))) near b n l e = absurd (omega arith)

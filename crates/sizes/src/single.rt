@@ -6,6 +6,7 @@ ghost use Rattle.sizes.specs.Counts.{SizesName, SizesBare};
 use crate::{Extent, counts};
 use frames::Under;
 use hand::Here;
+use words::kinds;
 
 // A name that is read: one part, or what its actual has, a level deeper.
 fn named(s: &[u8], t: &[u8], u: Under, h: Here, word: Here) -> Extent
@@ -23,16 +24,10 @@ pub fn bare(s: &[u8], t: &[u8], u: Under, row: u8, h: Here) -> Extent
     ensures { SizesBare s.now t.now u row h result }
 {
     let after = hand::word_from(s, h.next);
-    if row == 1 {
+    if row != 0 {
         return counts::leaf(after);
     }
-    if row == 2 {
-        return counts::leaf(after);
-    }
-    if row == 3 {
-        return counts::leaf(after);
-    }
-    if after.kind != 16 {
+    if after.kind != kinds::LEFT {
         return named(s, t, u, h, after);
     }
     let number = hand::word_from(s, after.next);

@@ -2,6 +2,7 @@
 -- Assumes nothing.
 use mathlib.Core.Path.{sym, ◌∙◌}
 use native.Mathlib.Omega.{arith}
+use borrow.Author.Rules.{rules}
 use Rattle.measure.proofs.Laws.{on_long, one-row, one_bare, one_none, one_if, row_bare, loop-came, while-came, if_came, else_came, switch-came, parallel-came}
 use Rattle.measure.proofs.Calling.{wrote_frame, call_stays, call_full, call-body}
 use Rattle.measure.proofs.Lists.{list-start, list-ends, list_spare, list_on, case-came, cases_start, cases_end, cases_on, branch_came, branches_start, branches_end, branches_on}
@@ -16,26 +17,26 @@ branch-shape_of-t t c = on_long c.list-a.ensures.on
 pub branch-returns : goal.branch-returns
 branch-returns t c = branch_came c.with_acts.ensures c.list-a.ensures c.summed.ensures c.made.ensures
 
-pub branches-loop-u-init : goal.branches-loop-u-init
-branches-loop-u-init t c = branches_start c.requires.near c.made-at.ensures
+pub branches-loop-at-init : goal.branches-loop-at-init
+branches-loop-at-init t c = branches_start c.requires.near c.made-at.ensures
 
-pub branches-shape_of-t-then-w-ne2 : goal.branches-shape_of-t-then-w-ne2
-branches-shape_of-t-then-w-ne2 t c = on_long c.loop-u.invariant.on
+pub branches-shape_of-t : goal.branches-shape_of-t
+branches-shape_of-t t c = on_long c.loop-at.invariant.on
 
-pub branches-returns-then-w-ne2 : goal.branches-returns-then-w-ne2
-branches-returns-then-w-ne2 t c = branches_end c.made-at.ensures c.if-w-ne2.true c.loop-u.invariant
+pub branches-returns : goal.branches-returns
+branches-returns t c = branches_end c.made-at.ensures c.loop-at-test.false c.loop-at.invariant
 
 pub branches-word_from-v-requires : goal.branches-word_from-v-requires
-branches-word_from-v-requires t c = (c.requires.near.short, c.loop-u.invariant.on.near.inside)
+branches-word_from-v-requires t c = (c.requires.near.short, c.loop-at.invariant.on.near.inside)
 
 pub branches-branch-at-requires : goal.branches-branch-at-requires
 branches-branch-at-requires t c = (omega (arith, c.decreases), record { near = c.word_from-v.ensures.near; few = c.requires.few })
 
-pub branches-loop-u-smaller : goal.branches-loop-u-smaller
-branches-loop-u-smaller t c = omega (arith, c.loop-u.invariant.on.near.more (omega (arith, c.if-w-ne2.false)), c.loop-u.invariant.on.near.inside, c.word_from-v.ensures.later, c.branch-at.ensures.on.later)
+pub branches-loop-at-smaller : goal.branches-loop-at-smaller
+branches-loop-at-smaller t c = omega (arith, c.loop-at.invariant.on.near.more (omega (arith, c.loop-at-test.true)), c.loop-at.invariant.on.near.inside, c.word_from-v.ensures.later, c.branch-at.ensures.on.later)
 
-pub branches-loop-u-preserved : goal.branches-loop-u-preserved
-branches-loop-u-preserved t c = branches_on c.if-w-ne2.false c.word_from-v.ensures (rw c.loop-u.invariant.on.kept at c.branch-at.ensures) c.loop-u.invariant
+pub branches-loop-at-preserved : goal.branches-loop-at-preserved
+branches-loop-at-preserved t c = branches_on c.loop-at-test.true c.word_from-v.ensures (rw c.loop-at.invariant.on.kept at c.branch-at.ensures) c.loop-at.invariant
 
 pub call-hand_over-h-requires : goal.call-hand_over-h-requires
 call-hand_over-h-requires t c = (c.requires.0.short, c.requires.1.near.inside)
@@ -67,23 +68,23 @@ call-shape_of-t t c = c.enter-e.ensures.size
 pub call-returns : goal.call-returns
 call-returns t c = call_stays c.requires.0 c.requires.1 c.requires.2 c.enter-e.ensures c.if-e.false c.begun.ensures c.made-2.ensures
 
-pub cases-loop-u-init : goal.cases-loop-u-init
-cases-loop-u-init t c = cases_start c.requires.near c.made-at.ensures
+pub cases-loop-at-init : goal.cases-loop-at-init
+cases-loop-at-init t c = cases_start c.requires.near c.made-at.ensures
 
-pub cases-shape_of-t-then-w-ne50 : goal.cases-shape_of-t-then-w-ne50
-cases-shape_of-t-then-w-ne50 t c = on_long c.loop-u.invariant.on
+pub cases-shape_of-t : goal.cases-shape_of-t
+cases-shape_of-t t c = on_long c.loop-at.invariant.on
 
-pub cases-returns-then-w-ne50 : goal.cases-returns-then-w-ne50
-cases-returns-then-w-ne50 t c = cases_end c.made-at.ensures c.if-w-ne50.true c.loop-u.invariant
+pub cases-returns : goal.cases-returns
+cases-returns t c = cases_end c.made-at.ensures c.loop-at-test.false c.loop-at.invariant
 
 pub cases-one_case-at-requires : goal.cases-one_case-at-requires
-cases-one_case-at-requires t c = (omega (arith, c.decreases), record { near = c.loop-u.invariant.on.near; few = c.requires.few })
+cases-one_case-at-requires t c = (omega (arith, c.decreases), record { near = c.loop-at.invariant.on.near; few = c.requires.few })
 
-pub cases-loop-u-smaller : goal.cases-loop-u-smaller
-cases-loop-u-smaller t c = omega (arith, c.loop-u.invariant.on.near.more (omega (arith, c.if-w-ne50.false)), c.loop-u.invariant.on.near.inside, c.one_case-at.ensures.past)
+pub cases-loop-at-smaller : goal.cases-loop-at-smaller
+cases-loop-at-smaller t c = omega (arith, c.loop-at.invariant.on.near.more (omega (arith, c.loop-at-test.true)), c.loop-at.invariant.on.near.inside, c.one_case-at.ensures.past)
 
-pub cases-loop-u-preserved : goal.cases-loop-u-preserved
-cases-loop-u-preserved t c = cases_on c.if-w-ne50.false (rw c.loop-u.invariant.on.kept at c.one_case-at.ensures) c.loop-u.invariant
+pub cases-loop-at-preserved : goal.cases-loop-at-preserved
+cases-loop-at-preserved t c = cases_on c.loop-at-test.true (rw c.loop-at.invariant.on.kept at c.one_case-at.ensures) c.loop-at.invariant
 
 pub choice-word_from-second-requires : goal.choice-word_from-second-requires
 choice-word_from-second-requires t c = (c.requires.1.near.short, c.requires.1.near.inside)
@@ -100,11 +101,11 @@ choice-list-a-requires t c = (omega (arith, c.decreases, c.requires.0), record {
 pub choice-word_from-next-requires : goal.choice-word_from-next-requires
 choice-word_from-next-requires t c = (c.requires.1.near.short, c.list-a.ensures.on.near.inside)
 
-pub choice-shape_of-t-then-v-ne42 : goal.choice-shape_of-t-then-v-ne42
-choice-shape_of-t-then-v-ne42 t c = on_long c.list-a.ensures.on
+pub choice-shape_of-t-then-a-ne-ELSE : goal.choice-shape_of-t-then-a-ne-ELSE
+choice-shape_of-t-then-a-ne-ELSE t c = on_long c.list-a.ensures.on
 
-pub choice-returns-then-v-ne42 : goal.choice-returns-then-v-ne42
-choice-returns-then-v-ne42 t c = if_came c.requires.1.near c.deeper-inner.ensures c.begun.ensures c.deep-k.ensures c.word_from-second.ensures c.test-g.ensures c.list-a.ensures c.word_from-next.ensures c.if-v-ne42.true c.made.ensures
+pub choice-returns-then-a-ne-ELSE : goal.choice-returns-then-a-ne-ELSE
+choice-returns-then-a-ne-ELSE t c = if_came c.requires.1.near c.deeper-inner.ensures c.begun.ensures c.deep-k.ensures c.word_from-second.ensures c.test-g.ensures c.list-a.ensures c.word_from-next.ensures c.if-a-ne-ELSE.true c.made.ensures
 
 pub choice-list-b-requires : goal.choice-list-b-requires
 choice-list-b-requires t c = (omega (arith, c.decreases, c.requires.0), record { near = c.word_from-next.ensures.near; few = omega (arith, c.requires.1.few) })
@@ -116,37 +117,37 @@ pub choice-shape_of-t : goal.choice-shape_of-t
 choice-shape_of-t t c = on_long c.list-b.ensures.on ∙ on_long c.list-a.ensures.on
 
 pub choice-returns : goal.choice-returns
-choice-returns t c = else_came c.requires.1.near c.deeper-inner.ensures c.begun.ensures c.deep-k.ensures c.word_from-second.ensures c.test-g.ensures c.list-a.ensures c.word_from-next.ensures c.if-v-ne42.false (rw c.list-a.ensures.on.kept at c.list-b.ensures) c.word_from.ensures c.made-2.ensures
+choice-returns t c = else_came c.requires.1.near c.deeper-inner.ensures c.begun.ensures c.deep-k.ensures c.word_from-second.ensures c.test-g.ensures c.list-a.ensures c.word_from-next.ensures c.if-a-ne-ELSE.false (rw c.list-a.ensures.on.kept at c.list-b.ensures) c.word_from.ensures c.made-2.ensures
 
 pub list-stmt-at-requires : goal.list-stmt-at-requires
 list-stmt-at-requires t c = (omega (arith, c.decreases), record { near = c.requires.near; few = c.requires.few })
 
-pub list-loop-u-init : goal.list-loop-u-init
-list-loop-u-init t c = list-start (rw (← c.stmt-at.ensures.on.kept) at c.stmt-at.ensures)
+pub list-loop-at-init : goal.list-loop-at-init
+list-loop-at-init t c = list-start (rw (← c.stmt-at.ensures.on.kept) at c.stmt-at.ensures)
 
-pub list-shape_of-t-then-w-ne12 : goal.list-shape_of-t-then-w-ne12
-list-shape_of-t-then-w-ne12 t c = on_long c.loop-u.invariant.on ∙ on_long c.stmt-at.ensures.on
+pub list-shape_of-t : goal.list-shape_of-t
+list-shape_of-t t c = on_long c.loop-at.invariant.on ∙ on_long c.stmt-at.ensures.on
 
-pub list-returns-then-w-ne12 : goal.list-returns-then-w-ne12
-list-returns-then-w-ne12 t c = list-ends c.stmt-at.ensures (rw c.stmt-at.ensures.on.kept at c.loop-u.invariant) c.if-w-ne12.true
+pub list-returns : goal.list-returns
+list-returns t c = list-ends c.stmt-at.ensures (rw c.stmt-at.ensures.on.kept at c.loop-at.invariant) c.loop-at-test.false
 
 pub list-word_from-v-requires : goal.list-word_from-v-requires
-list-word_from-v-requires t c = (c.requires.near.short, c.loop-u.invariant.on.near.inside)
+list-word_from-v-requires t c = (c.requires.near.short, c.loop-at.invariant.on.near.inside)
 
 pub list-shape_of-t-then-statement_row-eq13 : goal.list-shape_of-t-then-statement_row-eq13
-list-shape_of-t-then-statement_row-eq13 t c = on_long c.loop-u.invariant.on ∙ on_long c.stmt-at.ensures.on
+list-shape_of-t-then-statement_row-eq13 t c = on_long c.loop-at.invariant.on ∙ on_long c.stmt-at.ensures.on
 
 pub list-returns-then-statement_row-eq13 : goal.list-returns-then-statement_row-eq13
-list-returns-then-statement_row-eq13 t c = list_spare c.stmt-at.ensures (rw c.stmt-at.ensures.on.kept at c.loop-u.invariant) c.if-w-ne12.false c.word_from-v.ensures (sym c.statement_row.ensures ∙ c.if-statement_row-eq13.true) c.made.ensures
+list-returns-then-statement_row-eq13 t c = list_spare c.stmt-at.ensures (rw c.stmt-at.ensures.on.kept at c.loop-at.invariant) c.loop-at-test.true c.word_from-v.ensures (sym c.statement_row.ensures ∙ c.if-statement_row-eq13.true) c.made.ensures
 
-pub list-stmt-at-requires-in-loop-u : goal.list-stmt-at-requires-in-loop-u
-list-stmt-at-requires-in-loop-u t c = (omega (arith, c.decreases), record { near = c.word_from-v.ensures.near; few = c.requires.few })
+pub list-stmt-at-requires-in-loop-at : goal.list-stmt-at-requires-in-loop-at
+list-stmt-at-requires-in-loop-at t c = (omega (arith, c.decreases), record { near = c.word_from-v.ensures.near; few = c.requires.few })
 
-pub list-loop-u-smaller : goal.list-loop-u-smaller
-list-loop-u-smaller t c = omega (arith, c.loop-u.invariant.on.near.more (omega (arith, c.if-w-ne12.false)), c.loop-u.invariant.on.near.inside, c.word_from-v.ensures.later, c.stmt-at-in-loop-u.ensures.on.later)
+pub list-loop-at-smaller : goal.list-loop-at-smaller
+list-loop-at-smaller t c = omega (arith, c.loop-at.invariant.on.near.more (omega (arith, c.loop-at-test.true)), c.loop-at.invariant.on.near.inside, c.word_from-v.ensures.later, c.stmt-at-in-loop-at.ensures.on.later)
 
-pub list-loop-u-preserved : goal.list-loop-u-preserved
-list-loop-u-preserved t c = list_on c.if-w-ne12.false c.word_from-v.ensures (λ e. c.if-statement_row-eq13.false (c.statement_row.ensures ∙ e)) (rw c.loop-u.invariant.on.kept at c.stmt-at-in-loop-u.ensures) c.loop-u.invariant
+pub list-loop-at-preserved : goal.list-loop-at-preserved
+list-loop-at-preserved t c = list_on c.loop-at-test.true c.word_from-v.ensures (λ e. c.if-statement_row-eq13.false (c.statement_row.ensures ∙ e)) (rw c.loop-at.invariant.on.kept at c.stmt-at-in-loop-at.ensures) c.loop-at.invariant
 
 pub loop_always-word_from-second-requires : goal.loop_always-word_from-second-requires
 loop_always-word_from-second-requires t c = (c.requires.1.near.short, c.requires.1.near.inside)
@@ -170,16 +171,16 @@ pub named-word_from-after-requires : goal.named-word_from-after-requires
 named-word_from-after-requires t c = (c.requires.near.short, c.requires.near.inside)
 
 pub named-call-requires : goal.named-call-requires
-named-call-requires t c = (omega (arith, c.decreases), (c.requires.near, c.word_from-after.ensures, c.if-after-eq14.true))
+named-call-requires t c = (omega (arith, c.decreases), (c.requires.near, c.word_from-after.ensures, c.if-after-eq-OPEN.true))
 
-pub named-shape_of-t-then-after-eq14 : goal.named-shape_of-t-then-after-eq14
-named-shape_of-t-then-after-eq14 t c = on_long (c.call.ensures 0 (omega arith)).on
+pub named-shape_of-t-then-after-eq-OPEN : goal.named-shape_of-t-then-after-eq-OPEN
+named-shape_of-t-then-after-eq-OPEN t c = on_long (c.call.ensures 0 (omega arith)).on
 
-pub named-returns-then-after-eq14 : goal.named-returns-then-after-eq14
-named-returns-then-after-eq14 t c = c.call.ensures _ c.requires.few
+pub named-returns-then-after-eq-OPEN : goal.named-returns-then-after-eq-OPEN
+named-returns-then-after-eq-OPEN t c = c.call.ensures _ c.requires.few
 
 pub named-assign-requires : goal.named-assign-requires
-named-assign-requires t c = (c.requires, c.word_from-after.ensures, c.if-after-eq14.false)
+named-assign-requires t c = (c.requires, c.word_from-after.ensures, c.if-after-eq-OPEN.false)
 
 pub named-returns : goal.named-returns
 named-returns t c = row_bare c.assign.ensures
@@ -247,47 +248,47 @@ stmt-returns-then-levels-eq0 t c = one_none c.statement_row-row.ensures c.requir
 pub stmt-while_loop-requires : goal.stmt-while_loop-requires
 stmt-while_loop-requires t c = (omega (arith, c.decreases), (omega (arith, c.if-levels-eq0.false), c.requires))
 
-pub stmt-shape_of-t-then-row-eq7 : goal.stmt-shape_of-t-then-row-eq7
-stmt-shape_of-t-then-row-eq7 t c = on_long c.while_loop.ensures.on
+pub stmt-shape_of-t-in-7 : goal.stmt-shape_of-t-in-7
+stmt-shape_of-t-in-7 t c = on_long c.while_loop.ensures.on
 
-pub stmt-returns-then-row-eq7 : goal.stmt-returns-then-row-eq7
-stmt-returns-then-row-eq7 t c = one-row c.statement_row-row.ensures c.if-row-eq7.true c.while_loop.ensures
+pub stmt-returns-in-7 : goal.stmt-returns-in-7
+stmt-returns-in-7 t c = one-row c.statement_row-row.ensures c.in-7.is c.while_loop.ensures
 
 pub stmt-loop_always-requires : goal.stmt-loop_always-requires
 stmt-loop_always-requires t c = (omega (arith, c.decreases), (omega (arith, c.if-levels-eq0.false), c.requires))
 
-pub stmt-shape_of-t-then-row-eq8 : goal.stmt-shape_of-t-then-row-eq8
-stmt-shape_of-t-then-row-eq8 t c = on_long c.loop_always.ensures.on
+pub stmt-shape_of-t-in-8 : goal.stmt-shape_of-t-in-8
+stmt-shape_of-t-in-8 t c = on_long c.loop_always.ensures.on
 
-pub stmt-returns-then-row-eq8 : goal.stmt-returns-then-row-eq8
-stmt-returns-then-row-eq8 t c = one-row c.statement_row-row.ensures c.if-row-eq8.true c.loop_always.ensures
+pub stmt-returns-in-8 : goal.stmt-returns-in-8
+stmt-returns-in-8 t c = one-row c.statement_row-row.ensures c.in-8.is c.loop_always.ensures
 
 pub stmt-switch-requires : goal.stmt-switch-requires
 stmt-switch-requires t c = (omega (arith, c.decreases), (omega (arith, c.if-levels-eq0.false), c.requires))
 
-pub stmt-shape_of-t-then-row-eq10 : goal.stmt-shape_of-t-then-row-eq10
-stmt-shape_of-t-then-row-eq10 t c = on_long c.switch.ensures.on
+pub stmt-shape_of-t-in-10 : goal.stmt-shape_of-t-in-10
+stmt-shape_of-t-in-10 t c = on_long c.switch.ensures.on
 
-pub stmt-returns-then-row-eq10 : goal.stmt-returns-then-row-eq10
-stmt-returns-then-row-eq10 t c = one-row c.statement_row-row.ensures c.if-row-eq10.true c.switch.ensures
+pub stmt-returns-in-10 : goal.stmt-returns-in-10
+stmt-returns-in-10 t c = one-row c.statement_row-row.ensures c.in-10.is c.switch.ensures
 
 pub stmt-parallel-requires : goal.stmt-parallel-requires
 stmt-parallel-requires t c = (omega (arith, c.decreases), (omega (arith, c.if-levels-eq0.false), c.requires))
 
-pub stmt-shape_of-t-then-row-eq12 : goal.stmt-shape_of-t-then-row-eq12
-stmt-shape_of-t-then-row-eq12 t c = on_long c.parallel.ensures.on
+pub stmt-shape_of-t-in-12 : goal.stmt-shape_of-t-in-12
+stmt-shape_of-t-in-12 t c = on_long c.parallel.ensures.on
 
-pub stmt-returns-then-row-eq12 : goal.stmt-returns-then-row-eq12
-stmt-returns-then-row-eq12 t c = one-row c.statement_row-row.ensures c.if-row-eq12.true c.parallel.ensures
+pub stmt-returns-in-12 : goal.stmt-returns-in-12
+stmt-returns-in-12 t c = one-row c.statement_row-row.ensures c.in-12.is c.parallel.ensures
 
 pub stmt-choice-requires : goal.stmt-choice-requires
 stmt-choice-requires t c = (omega (arith, c.decreases), (omega (arith, c.if-levels-eq0.false), c.requires))
 
-pub stmt-shape_of-t : goal.stmt-shape_of-t
-stmt-shape_of-t t c = on_long c.choice.ensures.on
+pub stmt-shape_of-t-in_default : goal.stmt-shape_of-t-in_default
+stmt-shape_of-t-in_default t c = on_long c.choice.ensures.on
 
-pub stmt-returns : goal.stmt-returns
-stmt-returns t c = one_if c.statement_row-row.ensures (sym c.is_plain.ensures ∙ c.if-is_plain.false) c.if-row-eq5.false c.if-row-eq7.false c.if-row-eq8.false c.if-row-eq10.false c.if-row-eq12.false c.choice.ensures
+pub stmt-returns-in_default : goal.stmt-returns-in_default
+stmt-returns-in_default t c = one_if c.statement_row-row.ensures (sym c.is_plain.ensures ∙ c.if-is_plain.false) c.if-row-eq5.false (search rules) (search rules) (search rules) (search rules) c.choice.ensures
 
 pub switch-word_from-second-requires : goal.switch-word_from-second-requires
 switch-word_from-second-requires t c = (c.requires.1.near.short, c.requires.1.near.inside)

@@ -55,8 +55,8 @@ expr-overflow_sub-levels t c = omega (arith, c.if-levels-eq0.false)
 pub expr-expr-g-requires : goal.expr-expr-g-requires
 expr-expr-g-requires t c = (omega (arith, c.decreases, c.if-levels-eq0.false), record { near = c.word_from-inner.ensures.near; low = c.requires.low; few = omega (arith, c.requires.few) })
 
-pub expr-returns-in-Before : goal.expr-returns-in-Before
-expr-returns-in-Before t c = before_on (before-low c.args.tier _ (rw c.in-Before.is at c.strength_at.ensures)) (rw c.in-Before.is at c.strength_at.ensures) c.if-first-op.false c.requires.near c.word_from-inner.ensures c.expr-g.ensures (ap (λ (x : Extent). x.word) c.over.ensures) (λ x p. not_under c.over.ensures p)
+pub expr-returns-else-levels-eq0 : goal.expr-returns-else-levels-eq0
+expr-returns-else-levels-eq0 t c = before_on (before-low c.args.tier _ (rw c.in-Before.is at c.strength_at.ensures)) (rw c.in-Before.is at c.strength_at.ensures) c.if-first-op.false c.requires.near c.word_from-inner.ensures c.expr-g.ensures (ap (λ (x : Extent). x.word) c.over.ensures) (λ x p. not_under c.over.ensures p)
 
 pub expr-between-requires : goal.expr-between-requires
 expr-between-requires t c = (omega (arith, c.decreases), (c.requires, rw c.in-Between.is at c.strength_at.ensures))
