@@ -4,6 +4,7 @@ use mathlib.Core.Bool.{true, false}
 use mathlib.Core.Path.{◌≡◌, refl, sym, ◌∙◌, ap, ap₂, subst}
 use mathlib.Core.List.{List, [], ◌∷◌}
 use Prim.Native.Nat.{ℕ, ◌≤◌}
+use Rattle.std.specs.Prelude.{Some, None}
 use native.Mathlib.Omega.{arith}
 use Rattle.meaning.specs.Tree.{Name}
 use Rattle.meaning.specs.Levels.{most_levels}
@@ -74,7 +75,7 @@ module _ {s : List ℕ} {u : Under} {n : ℕ} {h : Here} {t t₁ : List ℕ} {m 
   same_after = same_area t t₁ came.on.tree came.on.kept
 
   -- a statement or a part too many
-  pub measured_passed : {r : Gauged} (row : ℕ) {w : ℕ} → m.passed ≡ true → placed row ≡ row_in s (beside t₁).names u.seen (part s h.place h.next) → w ≡ wide_at (beside t₁).names row → r ≡ record { word = m.word; over = true; acts = w; deep = false } → Measures s u n h t t₁ r
+  pub measured_passed : {r : Gauged} (row : ℕ) {w : ℕ} → m.acts ≡ None → placed row ≡ row_in s (beside t₁).names u.seen (part s h.place h.next) → w ≡ wide_at (beside t₁).names row → r ≡ record { word = m.word; over = true; acts = w; deep = false } → Measures s u n h t t₁ r
   measured_passed row passed found wide made =
       rw made
       (record {
@@ -84,7 +85,7 @@ module _ {s : List ℕ} {u : Under} {n : ℕ} {h : Here} {t t₁ : List ℕ} {m 
         told = λ ps o none at {v} {ts} {rest} c.
             let i = tells came o none at c in
             let x = name_of c.word u.at in
-            let counts = sym i.so.passed ∙ passed in
+            let counts = rw passed at i.so.acts in
             record {
               word = i.word;
               over = sym (counts-around (expansion ps x ts) 0 (omega arith) counts);
@@ -95,7 +96,7 @@ module _ {s : List ℕ} {u : Under} {n : ℕ} {h : Here} {t t₁ : List ℕ} {m 
       })
 
   -- another size: by itself, or by the levels around
-  pub measured_again : {t₂ : List ℕ} {k : Measured} {r : Gauged} → n ≤ most_levels → m.passed ≡ false → m.over ≡ true → MeasuredCame s (beside t₁).names u 0 h t₁ t₂ k → r ≡ record { word = m.word; over = k.over; acts = m.acts; deep = true } → Measures s u n h t t₂ r
+  pub measured_again : {t₂ : List ℕ} {k : Measured} {r : Gauged} {q : ℕ} → n ≤ most_levels → m.acts ≡ Some q → m.over ≡ true → MeasuredCame s (beside t₁).names u 0 h t₁ t₂ k → r ≡ record { word = m.word; over = k.over; acts = q; deep = true } → Measures s u n h t t₂ r
   measured_again {t₂} {k} few counts over again made =
       rw made
       (record {
@@ -108,7 +109,7 @@ module _ {s : List ℕ} {u : Under} {n : ℕ} {h : Here} {t t₁ : List ℕ} {m 
             record {
               word = i.word;
               over = own ps o none at c;
-              acts = λ e. i.so.acts counts ∙ exact-kept s (beside t).names u.seen ps o.rows x ts (sym i.so.passed ∙ counts);
+              acts = λ e. let known = rw counts at i.so.acts in known.1 ∙ exact-kept s (beside t).names u.seen ps o.rows x ts known.0;
               deep = λ e. sym (deep-around (expansion ps x ts) n few (sym (own ps o none at c) ∙ e) (sym i.so.over ∙ over));
               none = passes_none o c.word ts;
             };

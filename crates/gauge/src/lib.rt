@@ -39,14 +39,13 @@ pub fn measure(s: &[u8], t: &mut [u8], u: Under, around: u8, first: Here) -> Gau
         return made(first, false, 0, false);
     }
     let m = measure::outermost(s, t, u, first, after, around);
-    if m.passed {
+    let Some(acts) = m.acts else {
         let row = find::procedure(s, t, u.seen, first.place, first.next);
-        let acts = u16::from(area::wide_at(t, row));
-        return made(m.word, true, acts, false);
-    }
+        return made(m.word, true, u16::from(area::wide_at(t, row)), false);
+    };
     if m.over {
         let own = measure::outermost(s, t, u, first, after, 0);
-        return made(m.word, own.over, m.acts, true);
+        return made(m.word, own.over, acts, true);
     }
     made(m.word, false, 0, false)
 }

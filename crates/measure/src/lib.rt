@@ -296,13 +296,12 @@ fn branches(
     at
 }
 
-// An outermost call: the word behind it, whether its expansion passes a size where it stands, whether that has a statement or a part too many, and if not, its activities.
+// An outermost call: the word behind it, whether its expansion passes a size where it stands, and its activities, unless that has a statement or a part too many.
 #[derive(Clone, Copy)]
 pub struct Measured {
     pub word: Here,
     pub over: bool,
-    pub passed: bool,
-    pub acts: u16,
+    pub acts: Option<u16>,
 }
 
 // P9: all that a call stands for is told at its place.
@@ -323,7 +322,6 @@ pub fn outermost(s: &[u8], t: &mut [u8], u: Under, first: Here, after: Here, aro
     Measured {
         word: c.word,
         over: k.over(),
-        passed: k.passed,
-        acts: k.acts,
+        acts: (!k.passed).then_some(k.acts),
     }
 }
