@@ -9,7 +9,7 @@ use Rattle.clock_c.proofs.windnadel_clocks.Goals as goal
 pub returns-in-Ok : goal.returns-in-Ok
 returns-in-Ok c =
     let g = good_copied c.args.text.now c.read.new.work c.read.result c.read.ensures.0 c.in-Ok.is c.tree-tree.ensures in
-    ran_good 1536 (omega (arith, g.few)) g c.run.ensures
+    rw c.from.ensures (ran_good 1536 (omega (arith, g.few)) g c.run.ensures)
 
 pub returns-in-Err : goal.returns-in-Err
 returns-in-Err c = ran_refused (subst (ReadDone c.args.text.now c.read.new.work) c.in-Err.is c.read.ensures.0)
