@@ -1,7 +1,6 @@
 // What does a source say? `front` reads one on standard input; `front FILE..` reads each file, and writes its name first.
 #![tactic(auto)]
 
-use source::Answer;
 use std::io;
 use std::io::{Input, Print};
 use std::rt::{Env, Files};
@@ -13,10 +12,9 @@ fn text(to: &impl Print, s: &[u8]) -> io::Result<()> {
 
 // What a source says: `good`, or `refused N at P`.
 fn answer(to: &impl Print, bytes: &[u8]) -> io::Result<()> {
-    let answer = source::check(bytes);
-    match answer {
-        Answer::Good => text(to, b"good\n"),
-        Answer::Refused { number, place } => { println!(to; "refused {number} at {place}") }
+    match source::check(bytes) {
+        Ok(()) => text(to, b"good\n"),
+        Err(r) => { println!(to; "{r}") }
     }
 }
 

@@ -1,38 +1,29 @@
 -- The numbers that C gets for what a source says, and for what its words and its grammar alone say.
 -- Assumes nothing.
-use Rattle.std.specs.Prelude.{◌≡◌, List, ℕ, ◌+◌, ◌*◌, ◌^◌, ◌%◌}
-use Rattle.words.specs.declared.Stop.{Stop}
-use Rattle.words.specs.declared.Stop.TheVariants.{At, None}
+use Rattle.std.specs.Prelude.{◌≡◌, List, ℕ, ◌+◌, ◌*◌, ◌^◌, ◌%◌, Option, Some, None, Result, Ok, Err}
 use Rattle.grammar.specs.Meaning as grammar
-use Rattle.grammar.specs.declared.Checked.{Checked}
-use Rattle.grammar.specs.declared.Checked.TheVariants as grammatical
+use Rattle.refusals.specs.declared.Refusal.{Refusal}
+use Rattle.refusals.specs.Number.{number_of}
 use Rattle.source.specs.Says.{Says}
-use Rattle.source.specs.declared.Answer.{Answer}
-use Rattle.source.specs.declared.Answer.TheVariants.{Good, Refused}
 
 -- house: 0, or the refusal times 2^32 plus its place
-abbrev pub code_of : Answer → ℕ
-code_of Good = 0
-code_of (Refused number place) = number * 2 ^ 32 + place
+abbrev pub code_of : Result (Unit {0}) (Refusal ℕ) → ℕ
+code_of (Ok x) = 0
+code_of (Err r) = number_of r.cause * 2 ^ 32 + r.place
 
 -- the number of an answer that is right for the source
 pub record Coded (s : List ℕ) (r : ℕ) : Type 0 where
-  pub answer : Answer
+  pub answer : Result (Unit {0}) (Refusal ℕ)
   pub says : Says s answer
   pub is : r ≡ code_of answer
 
 -- house: 0, or 4 times 2^32 plus the place of the 4, modulo 2^32 in a text that is longer
-abbrev pub stop_code : Stop → ℕ
+abbrev pub stop_code : Option ℕ → ℕ
 stop_code None = 0
-stop_code (At e) = 4 * 2 ^ 32 + e % 2 ^ 32
-
--- house: as code_of
-abbrev pub check_code : Checked → ℕ
-check_code grammatical.Grammatical = 0
-check_code (grammatical.Refused number place) = number * 2 ^ 32 + place
+stop_code (Some e) = 4 * 2 ^ 32 + e % 2 ^ 32
 
 -- the number of an answer that is right for the source's words and grammar
 pub record Read (s : List ℕ) (r : ℕ) : Type 0 where
-  pub answer : Checked
+  pub answer : Result (Unit {0}) (Refusal ℕ)
   pub says : grammar.Says s answer
-  pub is : r ≡ check_code answer
+  pub is : r ≡ code_of answer

@@ -4,22 +4,23 @@
 ghost use Rattle.std.specs.Prelude.{◌≡◌};
 ghost use Rattle.language.specs.Scan.{words_of};
 ghost use Rattle.words.specs.Meaning.{stop_of};
-ghost use Rattle.front_c.specs.Code.{Coded, Read, stop_code};
+ghost use Rattle.front_c.specs.Code.{code_of, Coded, Read, stop_code};
 
-use grammar::Checked;
-use source::Answer;
-use words::Stop;
+use refusals::Refusal;
+
+// 0, or the refusal's number times 2^32 plus its place.
+fn code(answer: Result<(), Refusal<u32>>) -> u64
+    ensures { result ≡ code_of answer }
+{
+    answer.err().map_or(0, u64::from)
+}
 
 // 0 for a program without a fault; else the refusal's number times 2^32 plus its place.
 #[unsafe(no_mangle)]
 pub extern "C" fn windnadel_check(text: &[u8]) -> u64
     ensures { Coded text.now result }
 {
-    let answer = source::check(text);
-    match answer {
-        Answer::Good => 0,
-        Answer::Refused { number, place } => number as u64 * 4294967296 + place as u64,
-    }
+    code(source::check(text))
 }
 
 // What its words alone say: 0, or refusal 4 likewise, its place modulo 2^32.
@@ -27,11 +28,7 @@ pub extern "C" fn windnadel_check(text: &[u8]) -> u64
 pub extern "C" fn windnadel_words(text: &[u8]) -> u64
     ensures { result ≡ stop_code (stop_of (words_of text.now)) }
 {
-    let stop = words::first_stop(text);
-    match stop {
-        Stop::At(e) => 4 * 4294967296 + e as u64 % 4294967296,
-        Stop::None => 0,
-    }
+    words::first_stop(text).map_or(0, |e| 4 * 4294967296 + e as u64 % 4294967296)
 }
 
 // What its words and its grammar say: 0, or refusal 3, 4 or 5 likewise.
@@ -39,9 +36,5 @@ pub extern "C" fn windnadel_words(text: &[u8]) -> u64
 pub extern "C" fn windnadel_grammar(text: &[u8]) -> u64
     ensures { Read text.now result }
 {
-    let answer = grammar::check(text);
-    match answer {
-        Checked::Grammatical => 0,
-        Checked::Refused { number, place } => number as u64 * 4294967296 + place as u64,
-    }
+    code(grammar::check(text))
 }

@@ -5,6 +5,7 @@ use mathlib.Core.Path.{◌≡◌, refl, sym, ◌∙◌, ap, ap₂, subst}
 use mathlib.Core.List.{List, [], ◌∷◌}
 use mathlib.Core.Option as option
 use Prim.Native.Nat.{ℕ, ◌≤◌}
+use Rattle.std.specs.Prelude.{Some, None}
 use native.Mathlib.Omega.{arith}
 use Rattle.meaning.specs.Tree.{Name}
 use Rattle.meaning.specs.Levels.{most_levels}
@@ -75,7 +76,7 @@ module _ {s : List ℕ} {u : Under} {n : ℕ} {h : Here} {t t₁ : List ℕ} {m 
   same_after = same_area t t₁ came.on.tree came.on.kept
 
   -- a statement or a part too many
-  measured_passed : {r : Gauged} {o : option.Option ℕ} {w : ℕ} → m.passed ≡ true → o ≡ row_in s (beside t₁).names u.seen (part s h.place h.next) → ((row : ℕ) → o ≡ option.some row → w ≡ wide_at (beside t₁).names row) → r ≡ record { word = m.word; over = true; acts = w; deep = false } → Measures s u n h t t₁ r
+  measured_passed : {r : Gauged} {o : option.Option ℕ} {w : ℕ} → m.acts ≡ None → o ≡ row_in s (beside t₁).names u.seen (part s h.place h.next) → ((row : ℕ) → o ≡ option.some row → w ≡ wide_at (beside t₁).names row) → r ≡ record { word = m.word; over = true; acts = w; deep = false } → Measures s u n h t t₁ r
   measured_passed passed found wide made =
       rw made
       (record {
@@ -85,7 +86,7 @@ module _ {s : List ℕ} {u : Under} {n : ℕ} {h : Here} {t t₁ : List ℕ} {m 
         told = λ ps o none at {v} {ts} {rest} c.
             let i = tells came o none at c in
             let x = name_of c.word u.at in
-            let counts = sym i.so.passed ∙ passed in
+            let counts = rw passed at i.so.acts in
             record {
               word = i.word;
               over = sym (counts-around (expansion ps x ts) 0 (omega arith) counts);
@@ -95,15 +96,15 @@ module _ {s : List ℕ} {u : Under} {n : ℕ} {h : Here} {t t₁ : List ℕ} {m 
             };
       })
 
-  pub measured_row : {r : Gauged} {row w : ℕ} → m.passed ≡ true → option.some row ≡ row_in s (beside t₁).names u.seen (part s h.place h.next) → w ≡ wide_at (beside t₁).names row → r ≡ record { word = m.word; over = true; acts = w; deep = false } → Measures s u n h t t₁ r
+  pub measured_row : {r : Gauged} {row w : ℕ} → m.acts ≡ None → option.some row ≡ row_in s (beside t₁).names u.seen (part s h.place h.next) → w ≡ wide_at (beside t₁).names row → r ≡ record { word = m.word; over = true; acts = w; deep = false } → Measures s u n h t t₁ r
   measured_row {row = row} passed found wide made = measured_passed passed found (λ i q. let e : row ≡ i = cc in wide ∙ ap (wide_at (beside t₁).names) e) made
 
   -- .. of no procedure: none is
-  pub measured_missing : {r : Gauged} {w : ℕ} → m.passed ≡ true → option.none ≡ row_in s (beside t₁).names u.seen (part s h.place h.next) → r ≡ record { word = m.word; over = true; acts = w; deep = false } → Measures s u n h t t₁ r
+  pub measured_missing : {r : Gauged} {w : ℕ} → m.acts ≡ None → option.none ≡ row_in s (beside t₁).names u.seen (part s h.place h.next) → r ≡ record { word = m.word; over = true; acts = w; deep = false } → Measures s u n h t t₁ r
   measured_missing passed found made = measured_passed passed found (λ i q. none-some q) made
 
   -- another size: by itself, or by the levels around
-  pub measured_again : {t₂ : List ℕ} {k : Measured} {r : Gauged} → n ≤ most_levels → m.passed ≡ false → m.over ≡ true → MeasuredCame s (beside t₁).names u 0 h t₁ t₂ k → r ≡ record { word = m.word; over = k.over; acts = m.acts; deep = true } → Measures s u n h t t₂ r
+  pub measured_again : {t₂ : List ℕ} {k : Measured} {r : Gauged} {q : ℕ} → n ≤ most_levels → m.acts ≡ Some q → m.over ≡ true → MeasuredCame s (beside t₁).names u 0 h t₁ t₂ k → r ≡ record { word = m.word; over = k.over; acts = q; deep = true } → Measures s u n h t t₂ r
   measured_again {t₂} {k} few counts over again made =
       rw made
       (record {
@@ -116,7 +117,7 @@ module _ {s : List ℕ} {u : Under} {n : ℕ} {h : Here} {t t₁ : List ℕ} {m 
             record {
               word = i.word;
               over = own ps o none at c;
-              acts = λ e. i.so.acts counts ∙ exact-kept s (beside t).names u.seen ps o.rows x ts (sym i.so.passed ∙ counts);
+              acts = λ e. let known = rw counts at i.so.acts in known.1 ∙ exact-kept s (beside t).names u.seen ps o.rows x ts known.0;
               deep = λ e. sym (deep-around (expansion ps x ts) n few (sym (own ps o none at c) ∙ e) (sym i.so.over ∙ over));
               none = passes_none o c.word ts;
             };

@@ -7,6 +7,7 @@ ghost use Rattle.gauge.specs.Measures.{Measures};
 
 use frames::{Under, area, find};
 use hand::Here;
+use words::kinds;
 
 // The word behind the call; whether its expansion passes a size by itself, and then its activities; if it passes none, whether it opens a level too many where it stands.
 #[derive(Clone, Copy)]
@@ -34,20 +35,19 @@ pub fn measure(s: &[u8], t: &mut [u8], u: Under, around: u8, first: Here) -> Gau
     ensures { Measures s.now u around first t.old t.new result }
 {
     let after = hand::word_from(s, first.next);
-    if after.kind != 14 {
+    if after.kind != kinds::OPEN {
         return made(first, false, 0, false);
     }
     let m = measure::outermost(s, t, u, first, after, around);
-    let word = m.word;
-    if m.passed {
+    let Some(acts) = m.acts else {
         let Some(row) = find::procedure(s, t, u.seen, first.place, first.next) else {
-            return made(word, true, 0, false);
+            return made(m.word, true, 0, false);
         };
-        return made(word, true, u16::from(area::wide_at(t, row)), false);
-    }
+        return made(m.word, true, u16::from(area::wide_at(t, row)), false);
+    };
     if m.over {
         let own = measure::outermost(s, t, u, first, after, 0);
-        return made(word, own.over, m.acts, true);
+        return made(m.word, own.over, acts, true);
     }
-    made(word, false, 0, false)
+    made(m.word, false, 0, false)
 }

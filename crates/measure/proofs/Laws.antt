@@ -5,7 +5,7 @@ use mathlib.Core.Path.{◌≡◌, refl, sym, ◌∙◌, ap, subst}
 use mathlib.Core.Logic.{◌⊎◌, inl, inr}
 use mathlib.Core.List.{List, ◌∷◌}
 use mathlib.Core.Option.{Option}
-use Prim.Native.Nat.{ℕ, zero, suc, ◌+◌, ◌-◌, ◌<◌, min}
+use Prim.Native.Nat.{ℕ, zero, suc, ◌+◌, ◌-◌, ◌<◌, ◌≤◌, min}
 use native.Mathlib.Omega.{arith}
 use lib.Dec.{ltb}
 use lib.ListN.{length}
@@ -174,31 +174,26 @@ module _ {s : List ℕ} {k n : ℕ} {h a : Here} {m : Tally} {r : Counted} {row 
             rw made (record { word = second.stands rest along; so = does S });
       }
 
-  pub bare_skip : {z : List ℕ} {u : Under} {q : Tally} → row ≡ 0 → q ≡ begun_tally m → r ≡ counted a q → BareCame s z u k n row h m r
-  bare_skip {z} {u} {q} e is made = one_word made (λ f ws v rest x. go f ws v rest (rw e at x))
-    where
-      go : (f : ℕ) (ws : List Word) (v : Command) (rest : List Word) → StatementRow f k ws v rest 0 → (x : Word) × (ws ≡ x ∷ rest) × ((S : Known s z u) → Measures 1 n m q (over_all (one_of S v)))
-      go f ws v rest (x, y, d) = (x, y, λ S. rw (is, d) (skip_measures S x.place))
-
-  pub bare_leaves : {z : List ℕ} {u : Under} {q : Tally} → is_plain row ≡ true → 4 < row → q ≡ begun_tally m → r ≡ counted a q → BareCame s z u k n row h m r
+  -- `skip`, `exit`, `break`
+  pub bare_one : {z : List ℕ} {u : Under} {q : Tally} → is_plain row ≡ true → ¬ (row ≡ 1) → (2 ≤ row → 4 < row) → q ≡ begun_tally m → r ≡ counted a q → BareCame s z u k n row h m r
   unfolding is_plain
-  bare_leaves {z} {u} {q} plain high is made = one_word made (λ f ws v rest x. go row plain high f ws v rest x)
+  bare_one {z} {u} {q} plain not-delay high is made = one_word made (λ f ws v rest x. go row plain not-delay high f ws v rest x)
     where
-      go : (i : ℕ) → is_plain i ≡ true → 4 < i → (f : ℕ) (ws : List Word) (v : Command) (rest : List Word) → StatementRow f k ws v rest i → (x : Word) × (ws ≡ x ∷ rest) × ((S : Known s z u) → Measures 1 n m q (over_all (one_of S v)))
-      go zero p l f ws v rest x = absurd (omega arith)
-      go (suc zero) p l f ws v rest x = absurd (omega arith)
-      go (suc (suc zero)) p l f ws v rest x = absurd (omega arith)
-      go (suc (suc (suc zero))) p l f ws v rest x = absurd (omega arith)
-      go (suc (suc (suc (suc zero)))) p l f ws v rest x = absurd (omega arith)
-      go (suc (suc (suc (suc (suc zero))))) p l f ws v rest x = clash (sym p)
-      go (suc (suc (suc (suc (suc (suc zero)))))) p l f ws v rest x = clash (sym p)
-      go (suc (suc (suc (suc (suc (suc (suc zero))))))) p l f ws v rest x = clash (sym p)
-      go (suc (suc (suc (suc (suc (suc (suc (suc zero)))))))) p l f ws v rest x = clash (sym p)
-      go (suc (suc (suc (suc (suc (suc (suc (suc (suc zero))))))))) p l f ws v rest (x, y, d) = (x, y, λ S. rw (is, d) (exit_measures S x.place))
-      go (suc (suc (suc (suc (suc (suc (suc (suc (suc (suc zero)))))))))) p l f ws v rest x = clash (sym p)
-      go (suc (suc (suc (suc (suc (suc (suc (suc (suc (suc (suc zero))))))))))) p l f ws v rest (x, y, d) = (x, y, λ S. rw (is, d) (break_measures S x.place))
-      go (suc (suc (suc (suc (suc (suc (suc (suc (suc (suc (suc (suc zero)))))))))))) p l f ws v rest x = clash (sym p)
-      go (suc (suc (suc (suc (suc (suc (suc (suc (suc (suc (suc (suc (suc i))))))))))))) p l f ws v rest x = absurd x
+      go : (i : ℕ) → is_plain i ≡ true → ¬ (i ≡ 1) → (2 ≤ i → 4 < i) → (f : ℕ) (ws : List Word) (v : Command) (rest : List Word) → StatementRow f k ws v rest i → (x : Word) × (ws ≡ x ∷ rest) × ((S : Known s z u) → Measures 1 n m q (over_all (one_of S v)))
+      go zero p o l f ws v rest (x, y, d) = (x, y, λ S. rw (is, d) (skip_measures S x.place))
+      go (suc zero) p o l f ws v rest x = absurd (o refl)
+      go (suc (suc zero)) p o l f ws v rest x = absurd (omega (arith, l (omega arith)))
+      go (suc (suc (suc zero))) p o l f ws v rest x = absurd (omega (arith, l (omega arith)))
+      go (suc (suc (suc (suc zero)))) p o l f ws v rest x = absurd (omega (arith, l (omega arith)))
+      go (suc (suc (suc (suc (suc zero))))) p o l f ws v rest x = clash (sym p)
+      go (suc (suc (suc (suc (suc (suc zero)))))) p o l f ws v rest x = clash (sym p)
+      go (suc (suc (suc (suc (suc (suc (suc zero))))))) p o l f ws v rest x = clash (sym p)
+      go (suc (suc (suc (suc (suc (suc (suc (suc zero)))))))) p o l f ws v rest x = clash (sym p)
+      go (suc (suc (suc (suc (suc (suc (suc (suc (suc zero))))))))) p o l f ws v rest (x, y, d) = (x, y, λ S. rw (is, d) (exit_measures S x.place))
+      go (suc (suc (suc (suc (suc (suc (suc (suc (suc (suc zero)))))))))) p o l f ws v rest x = clash (sym p)
+      go (suc (suc (suc (suc (suc (suc (suc (suc (suc (suc (suc zero))))))))))) p o l f ws v rest (x, y, d) = (x, y, λ S. rw (is, d) (break_measures S x.place))
+      go (suc (suc (suc (suc (suc (suc (suc (suc (suc (suc (suc (suc zero)))))))))))) p o l f ws v rest x = clash (sym p)
+      go (suc (suc (suc (suc (suc (suc (suc (suc (suc (suc (suc (suc (suc i))))))))))))) p o l f ws v rest x = absurd x
 
   pub bare_delay : {z : List ℕ} {u : Under} {a₁ : Here} {q : Tally} → row ≡ 1 → Begins s a.next a₁ → q ≡ marked_tally (begun_tally m) (ltb most_delay a.value) → r ≡ counted a₁ q → BareCame s z u k n row h m r
   bare_delay {z} {u} {a₁} {q} e third is made =
@@ -216,17 +211,17 @@ module _ {s : List ℕ} {k n : ℕ} {h a : Here} {m : Tally} {r : Counted} {row 
           rw (made, is, d) (record { word = third.stands rest along₁; so = rw val (delay_measures S x.place y.place (number_at y)) })
 
   -- `raise`, `lower`, `invert`
-  pub bare_change : {z : List ℕ} {u : Under} {w : Here} {q : Tally} {n₁ : ℕ} → ¬ (row ≡ 0) → ¬ (row ≡ 1) → ¬ (4 < row) → n₁ ≡ min (n + 1) 33 → PastChange s h w → q ≡ deep_tally (begun_tally m) n₁ 0 → r ≡ counted w q → BareCame s z u k n row h m r
-  bare_change {z} {u} {w} {q} {n₁} n₀ n₁' low more came is made =
-      record { near = rw made came.near; later = rw made came.later; told = λ S ws st f v rest x. let (c, y) = rows row n₀ n₁' low f ws v rest x in go S ws st f v rest c y }
+  pub bare_change : {z : List ℕ} {u : Under} {w : Here} {q : Tally} {n₁ : ℕ} → 2 ≤ row → row ≤ 4 → n₁ ≡ min (n + 1) 33 → PastChange s h w → q ≡ deep_tally (begun_tally m) n₁ 0 → r ≡ counted w q → BareCame s z u k n row h m r
+  bare_change {z} {u} {w} {q} {n₁} low high more came is made =
+      record { near = rw made came.near; later = rw made came.later; told = λ S ws st f v rest x. let (c, y) = rows row low high f ws v rest x in go S ws st f v rest c y }
     where
-      rows : (i : ℕ) → ¬ (i ≡ 0) → ¬ (i ≡ 1) → ¬ (4 < i) → (f : ℕ) (ws : List Word) (v : Command) (rest : List Word) → StatementRow f k ws v rest i → (c : Change) × ChangeRow f k ws v rest c
-      rows zero a b l f ws v rest x = absurd (a refl)
-      rows (suc zero) a b l f ws v rest x = absurd (b refl)
-      rows (suc (suc zero)) a b l f ws v rest x = (raise, x)
-      rows (suc (suc (suc zero))) a b l f ws v rest x = (lower, x)
-      rows (suc (suc (suc (suc zero)))) a b l f ws v rest x = (invert, x)
-      rows (suc (suc (suc (suc (suc i))))) a b l f ws v rest x = absurd (l (omega arith))
+      rows : (i : ℕ) → 2 ≤ i → i ≤ 4 → (f : ℕ) (ws : List Word) (v : Command) (rest : List Word) → StatementRow f k ws v rest i → (c : Change) × ChangeRow f k ws v rest c
+      rows zero l g f ws v rest x = absurd (omega arith)
+      rows (suc zero) l g f ws v rest x = absurd (omega arith)
+      rows (suc (suc zero)) l g f ws v rest x = (raise, x)
+      rows (suc (suc (suc zero))) l g f ws v rest x = (lower, x)
+      rows (suc (suc (suc (suc zero)))) l g f ws v rest x = (invert, x)
+      rows (suc (suc (suc (suc (suc i))))) l g f ws v rest x = absurd (omega arith)
 
       go : (S : Known s z u) (ws : List Word) → Stands s h ws → (f : ℕ) (v : Command) (rest : List Word) (c : Change) → ChangeRow f k ws v rest c → Tells s r.word rest (Measures 1 n m r.tally (over_all (one_of S v)))
       go S ws st f v rest c x =
@@ -326,10 +321,17 @@ module _ {s z : List ℕ} {u : Under} {k n : ℕ} {h : Here} {m : Tally} {row : 
   pub one_other : {t : List ℕ} {r : Counted} → row ≡ 13 → Near s h → r ≡ counted h m → One s z u k n h m t t r
   one_other last near made = one (on_made made (on_here near)) (λ S ws st e v rest y. absurd (rw last at y))
 
-pub change_rows : (p : PlainRow) → (p ≡ plain.Raise) ⊎ ((p ≡ plain.Lower) ⊎ (p ≡ plain.Invert)) → ¬ (plain_number p ≡ 0) × ¬ (plain_number p ≡ 1) × ¬ (4 < plain_number p)
-change_rows p (inl e) = rw e (λ z. omega arith, λ z. omega arith, λ z. omega arith)
-change_rows p (inr (inl e)) = rw e (λ z. omega arith, λ z. omega arith, λ z. omega arith)
-change_rows p (inr (inr e)) = rw e (λ z. omega arith, λ z. omega arith, λ z. omega arith)
+-- the rows of `raise`, `lower` and `invert`
+pub change_rows : (p : PlainRow) → (p ≡ plain.Raise) ⊎ ((p ≡ plain.Lower) ⊎ (p ≡ plain.Invert)) → (2 ≤ plain_number p) × (plain_number p ≤ 4)
+change_rows p (inl e) = rw e (omega arith, omega arith)
+change_rows p (inr (inl e)) = rw e (omega arith, omega arith)
+change_rows p (inr (inr e)) = rw e (omega arith, omega arith)
+
+-- .. and of `skip`, `exit` and `break`, which are one word
+pub word_rows : (p : PlainRow) → (p ≡ plain.Skip) ⊎ ((p ≡ plain.Exit) ⊎ (p ≡ plain.Break)) → ¬ (plain_number p ≡ 1) × (2 ≤ plain_number p → 4 < plain_number p)
+word_rows p (inl e) = rw e (λ z. omega arith, λ z. omega arith)
+word_rows p (inr (inl e)) = rw e (λ z. omega arith, λ z. omega arith)
+word_rows p (inr (inr e)) = rw e (λ z. omega arith, λ z. omega arith)
 
 pub row_bare : {s z : List ℕ} {u : Under} {k n row : ℕ} {h : Here} {m : Tally} {t : List ℕ} {r : Counted} → BareCame s z u k n row h m r → RowCame s z u k n row h m t t r
 row_bare came = record { on = record { near = came.near; later = came.later; tree = refl; kept = refl }; told = came.told }

@@ -1,6 +1,6 @@
 -- What the readers that count promise: for all words that the text has from there on, whatever they come to by the grammar, the tally is that of what they stand for under open calls.
 -- Assumes nothing.
-use Rattle.std.specs.Prelude.{true, false, ◌≡◌, List, [], ◌∷◌, ℕ, ◌≤◌, ◌<◌, min, take}
+use Rattle.std.specs.Prelude.{true, false, ◌≡◌, List, [], ◌∷◌, ℕ, ◌≤◌, ◌<◌, min, take, MatchOption}
 use Rattle.meaning.specs.Tree.{Name, Change, Target}
 use Rattle.meaning.specs.Unexpanded.{Term, Command, change, call, Commands, Tests, Strands, Procedure}
 use Rattle.meaning.specs.Clock.{activities_all}
@@ -153,8 +153,7 @@ under_call u p = record { at = p; frame = u.frame; depth = u.depth; seen = u.see
 -- what is told of it with n levels open around: P12, P13 whether a size is passed there, and P14 by itself
 pub record MeasuredIs (ps : List Procedure) (v : Name) (ts : List Term) (n : ℕ) (r : Measured) : Type 0 where
   pub over : r.over ≡ (own_all true (expansion ps v ts) (around n)).over
-  pub passed : r.passed ≡ (own_all false (expansion ps v ts) nothing).over
-  pub acts : r.passed ≡ false → r.acts ≡ min (activities_all (base_all (expansion ps v ts))) most_counted
+  pub acts : MatchOption r.acts ((own_all false (expansion ps v ts) nothing).over ≡ true) (λ a. ((own_all false (expansion ps v ts) nothing).over ≡ false) × (a ≡ min (activities_all (base_all (expansion ps v ts))) most_counted))
 
 -- .. in the program's own text, from its name on
 pub record MeasuredCame (s z : List ℕ) (u : Under) (n : ℕ) (h : Here) (t t₁ : List ℕ) (r : Measured) : Type 0 where

@@ -6,10 +6,14 @@ ghost use Rattle.hand.specs.Along.{Near, Begins};
 ghost use Rattle.parts.specs.Beside.{beside};
 ghost use Rattle.measure.specs.Counted.{Ready, RowCame, One, All, CaseCame, CasesCame, BranchCame, BranchesCame, under_call, MeasuredCame};
 
+// s, t, u, levels and around stay parameters: every contract compares `t.old` with `t.new` under `u`, and a struct of them, built anew where u or levels changes, would only stand before each of these names.
+// A row stays a number: the law of a row, `StatementRow` of descent_law, is by number.
+
 use frames::{Under, put};
 use hand::Here;
 use tally::Tally;
 use tiers::{AroundRow, StatementRow};
+use words::kinds;
 
 mod single;
 
@@ -52,7 +56,7 @@ fn named(s: &[u8], t: &mut [u8], u: Under, first: Here, m: Tally, levels: u8, ar
     ensures { RowCame s.now (beside t.old).names u levels around 5 first m t.old t.new result }
 {
     let after = hand::word_from(s, first.next);
-    if after.kind == 14 {
+    if after.kind == kinds::OPEN {
         return call(s, t, u, first, after, m, around);
     }
     single::assign(s, t, u, first, after, m, levels, around)
@@ -64,10 +68,9 @@ fn call(s: &[u8], t: &mut [u8], u: Under, first: Here, after: Here, m: Tally, ar
     requires { Near s.now first × Begins s.now first.next after × (after.kind ≡ 14) }
     ensures { (k : ℕ) → k ≤ 32 → RowCame s.now (beside t.old).names u k around 5 first m t.old t.new result }
 {
-    if tally::none_left(m) {
+    if m.none_left() {
         let h = calls::actuals::hand_over(s, t, u, after.next, 0);
-        let c = h.word;
-        return single::made(hand::word_from(s, c.next), tally::full(m));
+        return single::made(hand::word_from(s, h.word.next), m.full());
     }
     let e = calls::enter(s, t, u, first);
     let word = e.word;
@@ -77,7 +80,7 @@ fn call(s: &[u8], t: &mut [u8], u: Under, first: Here, after: Here, m: Tally, ar
         put::clear(t, u.top, v.top);
         return single::made(word, a.tally);
     }
-    single::made(word, tally::begun(m))
+    single::made(word, m.begun())
 }
 
 // `loop`.
@@ -95,11 +98,10 @@ fn loop_always(
     ensures { RowCame s.now (beside t.old).names u levels around 8 first m t.old t.new result }
 {
     let inner = sizes::counts::deeper(around);
-    let k = tally::deep(tally::begun(m), inner, 0);
+    let k = m.begun().deep(inner, 0);
     let second = hand::word_from(s, first.next);
     let a = list(s, t, u, second, k, levels - 1, inner);
-    let v = a.word;
-    single::made(hand::word_from(s, v.next), a.tally)
+    single::made(hand::word_from(s, a.word.next), a.tally)
 }
 
 // `while`.
@@ -117,15 +119,13 @@ fn while_loop(
     ensures { RowCame s.now (beside t.old).names u levels around 7 first m t.old t.new result }
 {
     let inner = sizes::counts::deeper(around);
-    let k = tally::deep(tally::begun(m), inner, 0);
+    let k = m.begun().deep(inner, 0);
     let second = hand::word_from(s, first.next);
     let below = levels - 1;
     let g = single::test(s, t, u, second, k, below, inner);
-    let w = g.word;
-    let body = hand::word_from(s, w.next);
+    let body = hand::word_from(s, g.word.next);
     let a = list(s, t, u, body, g.tally, below, inner);
-    let v = a.word;
-    single::made(hand::word_from(s, v.next), a.tally)
+    single::made(hand::word_from(s, a.word.next), a.tally)
 }
 
 // `if`, with or without `else`.
@@ -143,19 +143,17 @@ fn choice(
     ensures { RowCame s.now (beside t.old).names u levels around 6 first m t.old t.new result }
 {
     let inner = sizes::counts::deeper(around);
-    let k = tally::deep(tally::begun(m), inner, 0);
+    let k = m.begun().deep(inner, 0);
     let second = hand::word_from(s, first.next);
     let below = levels - 1;
     let g = single::test(s, t, u, second, k, below, inner);
     let a = list(s, t, u, g.word, g.tally, below, inner);
-    let v = a.word;
-    let next = hand::word_from(s, v.next);
-    if v.kind != 42 {
+    let next = hand::word_from(s, a.word.next);
+    if a.word.kind != kinds::ELSE {
         return single::made(next, a.tally);
     }
     let b = list(s, t, u, next, a.tally, below, inner);
-    let x = b.word;
-    single::made(hand::word_from(s, x.next), b.tally)
+    single::made(hand::word_from(s, b.word.next), b.tally)
 }
 
 // `switch`: a case, the cases behind it, and the default.
@@ -173,17 +171,15 @@ fn switch(
     ensures { RowCame s.now (beside t.old).names u levels around 10 first m t.old t.new result }
 {
     let inner = sizes::counts::deeper(around);
-    let k = tally::deep(tally::begun(m), inner, 0);
+    let k = m.begun().deep(inner, 0);
     let second = hand::word_from(s, first.next);
     let below = levels - 1;
     let a = one_case(s, t, u, second, k, below, inner);
     let c = cases(s, t, u, a.word, a.tally, below, inner);
-    let w = c.word;
-    let colon = hand::word_from(s, w.next);
+    let colon = hand::word_from(s, c.word.next);
     let last = hand::word_from(s, colon.next);
     let z = list(s, t, u, last, c.tally, below, inner);
-    let x = z.word;
-    single::made(hand::word_from(s, x.next), z.tally)
+    single::made(hand::word_from(s, z.word.next), z.tally)
 }
 
 // `parallel`: two branches, and those behind them.
@@ -201,17 +197,15 @@ fn parallel(
     ensures { RowCame s.now (beside t.old).names u levels around 12 first m t.old t.new result }
 {
     let inner = sizes::counts::deeper(around);
-    let k = tally::deep(tally::begun(m), inner, 0);
-    let o = tally::with_acts(k, 0);
+    let k = m.begun().deep(inner, 0);
+    let o = k.with_acts(0);
     let second = hand::word_from(s, first.next);
     let below = levels - 1;
     let a = branch(s, t, u, second, o, below, inner);
-    let v = a.word;
-    let other = hand::word_from(s, v.next);
+    let other = hand::word_from(s, a.word.next);
     let b = branch(s, t, u, other, a.tally, below, inner);
     let c = branches(s, t, u, b.word, b.tally, below, inner);
-    let x = c.word;
-    single::made(hand::word_from(s, x.next), tally::together(c.tally, m.acts))
+    single::made(hand::word_from(s, c.word.next), c.tally.together(m.acts))
 }
 
 // A list of statements.
@@ -221,18 +215,14 @@ fn list(s: &[u8], t: &mut [u8], u: Under, first: Here, m: Tally, levels: u8, aro
     ensures { All s.now (beside t.old).names u levels around first m t.old t.new result }
 {
     let mut at = stmt(s, t, u, first, m, levels, around);
-    loop {
-        let w = at.word;
-        let k = at.tally;
-        if w.kind != 12 {
-            return at;
-        }
-        let v = hand::word_from(s, w.next);
+    while at.word.kind == kinds::SEMICOLON {
+        let v = hand::word_from(s, at.word.next);
         if tiers::statement_row(v.kind).is_none() {
-            return single::made(v, k);
+            return single::made(v, at.tally);
         }
-        at = stmt(s, t, u, v, k, levels, around);
+        at = stmt(s, t, u, v, at.tally, levels, around);
     }
+    at
 }
 
 // A case, from its first word on.
@@ -261,14 +251,10 @@ fn cases(s: &[u8], t: &mut [u8], u: Under, first: Here, m: Tally, levels: u8, ar
     ensures { CasesCame s.now (beside t.old).names u levels around first m t.old t.new result }
 {
     let mut at = single::made(first, m);
-    loop {
-        let w = at.word;
-        let k = at.tally;
-        if w.kind != 50 {
-            return at;
-        }
-        at = one_case(s, t, u, w, k, levels, around);
+    while at.word.kind == kinds::CASE {
+        at = one_case(s, t, u, at.word, at.tally, levels, around);
     }
+    at
 }
 
 // A branch: its activities are counted from 1, and added to those before it.
@@ -285,8 +271,8 @@ fn branch(
     requires { Ready s.now levels first }
     ensures { BranchCame s.now (beside t.old).names u levels around first m t.old t.new result }
 {
-    let a = list(s, t, u, first, tally::with_acts(m, 1), levels, around);
-    single::made(a.word, tally::summed(a.tally, m.acts))
+    let a = list(s, t, u, first, m.with_acts(1), levels, around);
+    single::made(a.word, a.tally.summed(m.acts))
 }
 
 // Branches, as long as there are any.
@@ -304,37 +290,26 @@ fn branches(
     ensures { BranchesCame s.now (beside t.old).names u levels around first m t.old t.new result }
 {
     let mut at = single::made(first, m);
-    loop {
-        let w = at.word;
-        let k = at.tally;
-        if w.kind != 2 {
-            return at;
-        }
-        let v = hand::word_from(s, w.next);
-        at = branch(s, t, u, v, k, levels, around);
+    while at.word.kind == kinds::BARS {
+        let v = hand::word_from(s, at.word.next);
+        at = branch(s, t, u, v, at.tally, levels, around);
     }
+    at
 }
 
-// An outermost call: the word behind it, whether its expansion passes a size where it stands, whether that has a statement or a part too many, and if not, its activities.
+// An outermost call: the word behind it, whether its expansion passes a size where it stands, and its activities, unless that has a statement or a part too many.
 #[derive(Clone, Copy)]
 pub struct Measured {
     pub word: Here,
     pub over: bool,
-    pub passed: bool,
-    pub acts: u16,
+    pub acts: Option<u16>,
 }
 
 // P9: all that a call stands for is told at its place.
 fn inside(u: Under, p: u16) -> Under
     ensures { result ≡ under_call u p }
 {
-    Under {
-        at: p,
-        frame: u.frame,
-        depth: u.depth,
-        seen: u.seen,
-        top: u.top,
-    }
+    Under { at: p, ..u }
 }
 
 // An outermost call from its name on, in the program's own text, with so many levels open around (P12); `after` is the `(` behind the name.
@@ -343,13 +318,11 @@ pub fn outermost(s: &[u8], t: &mut [u8], u: Under, first: Here, after: Here, aro
     ensures { MeasuredCame s.now (beside t.old).names u around first t.old t.new result }
 {
     let v = inside(u, first.place);
-    let c = call(s, t, v, first, after, tally::start(), around);
-    let word = c.word;
+    let c = call(s, t, v, first, after, Tally::start(), around);
     let k = c.tally;
     Measured {
-        word,
-        over: tally::over(k),
-        passed: k.passed,
-        acts: k.acts,
+        word: c.word,
+        over: k.over(),
+        acts: (!k.passed).then_some(k.acts),
     }
 }

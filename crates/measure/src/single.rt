@@ -11,6 +11,7 @@ use frames::Under;
 use hand::Here;
 use tally::Tally;
 use tiers::PlainRow;
+use words::kinds;
 
 pub fn made(word: Here, tally: Tally) -> Counted
     ensures { result ≡ record { word = word; tally = tally } }
@@ -24,10 +25,9 @@ pub fn test(s: &[u8], t: &[u8], u: Under, first: Here, m: Tally, levels: u8, aro
     ensures { TestCame s.now (beside t.now).names u levels around first m result }
 {
     let g = sizes::sized(s, t, u, first, levels);
-    let w = g.word;
     made(
-        hand::word_from(s, w.next),
-        tally::term(m, around, g.parts, g.levels),
+        hand::word_from(s, g.word.next),
+        m.term(around, g.parts, g.levels),
     )
 }
 
@@ -47,8 +47,7 @@ pub fn assign(
 {
     let third = hand::word_from(s, after.next);
     let g = sizes::sized(s, t, u, third, levels);
-    let k = tally::begun(m);
-    made(g.word, tally::term(k, around, g.parts, g.levels))
+    made(g.word, m.begun().term(around, g.parts, g.levels))
 }
 
 // `raise`, `lower`, `invert`: up to the word behind the `)`.
@@ -60,7 +59,7 @@ fn changed(s: &[u8], first: Here) -> Here
     let name = hand::word_from(s, open.next);
     let after = hand::word_from(s, name.next);
     let second = hand::word_from(s, after.next);
-    if after.kind != 16 {
+    if after.kind != kinds::LEFT {
         return second;
     }
     let close = hand::word_from(s, second.next);
@@ -73,19 +72,17 @@ pub fn plain(s: &[u8], row: PlainRow, first: Here, m: Tally, around: u8) -> Coun
     requires { Near s.now first }
     ensures { (z : List ℕ) (u : Under) (k : ℕ) → BareCame s.now z u k around (plain_number row) first m result }
 {
-    let k = tally::begun(m);
+    let k = m.begun();
     let second = hand::word_from(s, first.next);
     match row {
-        PlainRow::Skip => made(second, k),
-        PlainRow::Exit => made(second, k),
-        PlainRow::Break => made(second, k),
+        PlainRow::Skip | PlainRow::Exit | PlainRow::Break => made(second, k),
         PlainRow::Delay => made(
             hand::word_from(s, second.next),
-            tally::marked(k, second.value > 255),
+            k.marked(second.value > 255),
         ),
         PlainRow::Raise | PlainRow::Lower | PlainRow::Invert => {
             let inner = sizes::counts::deeper(around);
-            made(changed(s, first), tally::deep(k, inner, 0))
+            made(changed(s, first), k.deep(inner, 0))
         }
     }
 }

@@ -17,6 +17,8 @@ use Rattle.meaning.specs.Expansion.{Bound, actual_of, Form, one_name, one_bit, n
 use Rattle.language.specs.Words.{bytes, same}
 use Rattle.language.specs.Trees.{Name, Operator, operators, joined_by}
 use Rattle.hand.specs.declared.Here.{Here}
+use Rattle.hand.specs.Along.{Near, Begins}
+use Rattle.tiers.proofs.Laws.{bare_number, bare_true, bare_false}
 use Rattle.frames_law.specs.Frames.{Frames, formal_in, told_at, Framed, Stood}
 use Rattle.frames_law.proofs.Frames.{none_open, formal-stands}
 use Rattle.frames.specs.declared.Under.{Under}
@@ -25,7 +27,7 @@ use Rattle.frames.specs.Layout.{frames_of}
 use Rattle.frames.specs.Open.{parts_of, levels_of}
 use Rattle.frames.specs.Meant.{formal_under, SizesOf}
 use Rattle.sizes.specs.declared.Extent.{Extent}
-use Rattle.sizes.specs.Counts.{Counts, CountsUnder, leaf_of, formal_of, over_of, inside_of, joined_of}
+use Rattle.sizes.specs.Counts.{Counts, CountsUnder, SizesBare, leaf_of, formal_of, over_of, inside_of, joined_of}
 
 -- ---- what each kind of term counts
 

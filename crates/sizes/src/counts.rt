@@ -1,5 +1,5 @@
 // Parts and levels counted, no further than one too many.
-ghost use Rattle.std.specs.Prelude.{◌≡◌, ◌+◌, min, max};
+ghost use Rattle.std.specs.Prelude.{◌≡◌, ◌+◌, min};
 ghost use Rattle.sizes.specs.Counts.{leaf_of, formal_of, over_of, inside_of, joined_of};
 
 use crate::Extent;
@@ -10,30 +10,14 @@ use hand::Here;
 fn parts(a: u16, b: u16) -> u16
     ensures { result ≡ min (a + b + 1) 1025 }
 {
-    let n = a as u32 + b as u32 + 1;
-    if n > 1025 {
-        return 1025;
-    }
-    n as u16
+    a.saturating_add(b).saturating_add(1).min(1025)
 }
 
 // One level more.
 pub fn deeper(levels: u8) -> u8
     ensures { result ≡ min (levels + 1) 33 }
 {
-    if levels > 32 {
-        return 33;
-    }
-    levels + 1
-}
-
-fn larger(a: u8, b: u8) -> u8
-    ensures { result ≡ max a b }
-{
-    if a < b {
-        return b;
-    }
-    a
+    levels.saturating_add(1).min(33)
 }
 
 // One part.
@@ -84,10 +68,9 @@ pub fn inside(word: Here, g: Extent) -> Extent
 pub fn joined(a: Extent, b: Extent) -> Extent
     ensures { result ≡ joined_of a b }
 {
-    let word = b.word;
     Extent {
-        word,
+        word: b.word,
         parts: parts(a.parts, b.parts),
-        levels: larger(a.levels, b.levels),
+        levels: a.levels.max(b.levels),
     }
 }

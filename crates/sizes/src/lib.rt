@@ -9,6 +9,8 @@ ghost use Rattle.tiers.specs.declared.How.TheVariants.{Operand, Between};
 ghost use Rattle.tiers.specs.Choose.{IsHow};
 ghost use Rattle.sizes.specs.Counts.{Ready, Sizes};
 
+// s, t and u stay parameters: the contracts name `s.now` and `t.now` of each, and a struct of them would only stand before these names.
+
 use frames::Under;
 use hand::Here;
 use tiers::{How, OperandRow};
@@ -48,14 +50,10 @@ fn expr(s: &[u8], t: &[u8], u: Under, tier: u8, first: Here, levels: u8) -> Exte
             }
             let inner = hand::word_from(s, first.next);
             let g = expr(s, t, u, tier, inner, levels - 1);
-            return counts::over(g.word, g);
+            counts::over(g.word, g)
         }
-        How::Between => {
-            return between(s, t, u, tier, first, levels);
-        }
-        How::Operand => {
-            return operand(s, t, u, tier, first, levels);
-        }
+        How::Between => between(s, t, u, tier, first, levels),
+        How::Operand => operand(s, t, u, tier, first, levels),
     }
 }
 
@@ -67,11 +65,10 @@ fn between(s: &[u8], t: &[u8], u: Under, tier: u8, first: Here, levels: u8) -> E
 {
     let mut left = expr(s, t, u, tier + 1, first, levels);
     loop {
-        let w = left.word;
-        if tiers::strength_of(w.kind) != Some(tier) {
+        if tiers::strength_of(left.word.kind) != Some(tier) {
             return left;
         }
-        let v = hand::word_from(s, w.next);
+        let v = hand::word_from(s, left.word.next);
         let right = expr(s, t, u, tier + 1, v, levels);
         left = counts::joined(left, right);
     }

@@ -1,3 +1,2 @@
-pub mod Taken
 pub mod Steps
 pub mod Ends

@@ -14,154 +14,121 @@ pub struct Tally {
     pub passed: bool,
 }
 
-// Nothing is counted.
-pub fn start() -> Tally
-    ensures { result ≡ start_tally }
-{
-    Tally {
-        statements: 0,
-        parts: 0,
-        acts: 1,
-        large: false,
-        passed: false,
+impl Tally {
+    // Nothing is counted.
+    pub fn start() -> Tally
+        ensures { result ≡ start_tally }
+    {
+        Tally {
+            statements: 0,
+            parts: 0,
+            acts: 1,
+            large: false,
+            passed: false,
+        }
     }
-}
 
-// Z5, Z6: too many.
-pub fn full(m: Tally) -> Tally
-    ensures { result ≡ full_tally m }
-{
-    Tally {
-        statements: m.statements,
-        parts: m.parts,
-        acts: m.acts,
-        large: m.large,
-        passed: true,
+    // Z5, Z6: too many.
+    pub fn full(self) -> Tally
+        ensures { result ≡ full_tally self }
+    {
+        Tally {
+            passed: true,
+            ..self
+        }
     }
-}
 
-// Z5, Z6: one statement more is too many.
-pub fn none_left(m: Tally) -> bool
-    ensures { result ≡ none_left m }
-{
-    if m.passed {
-        return true;
+    // Z5, Z6: one statement more is too many.
+    #[tactic(auto, unfolding(crate::specs::Tally::none_left))]
+    pub fn none_left(self) -> bool
+        ensures { result ≡ none_left self }
+    {
+        self.passed || self.statements >= 255
     }
-    m.statements >= 255
-}
 
-// P13: a size is passed.
-pub fn over(m: Tally) -> bool
-    ensures { result ≡ over_tally m }
-{
-    if m.passed {
-        return true;
+    // P13: a size is passed.
+    #[tactic(auto, unfolding(crate::specs::Tally::over_tally))]
+    pub fn over(self) -> bool
+        ensures { result ≡ over_tally self }
+    {
+        self.passed || self.large
     }
-    m.large
-}
 
-// Z5: one statement more.
-#[tactic(auto, using(crate::proofs::Taken::begun_full))]
-pub fn begun(m: Tally) -> Tally
-    ensures { result ≡ begun_tally m }
-{
-    if m.passed {
-        return m;
+    // Z5: one statement more.
+    #[tactic(auto, unfolding(crate::specs::Tally::begun_tally, crate::specs::Tally::none_left))]
+    pub fn begun(self) -> Tally
+        ensures { result ≡ begun_tally self }
+    {
+        if self.none_left() {
+            return self.full();
+        }
+        Tally {
+            statements: self.statements + 1,
+            ..self
+        }
     }
-    if m.statements >= 255 {
-        return full(m);
-    }
-    Tally {
-        statements: m.statements + 1,
-        parts: m.parts,
-        acts: m.acts,
-        large: m.large,
-        passed: m.passed,
-    }
-}
 
-// Z6: so many parts more.
-#[tactic(auto, using(crate::proofs::Taken::parted_full))]
-fn parted(m: Tally, parts: u16) -> Tally
-    ensures { result ≡ parted_tally m parts }
-{
-    if m.passed {
-        return m;
+    // Z6: so many parts more.
+    #[tactic(auto, unfolding(crate::specs::Tally::parted_tally))]
+    fn parted(self, more: u16) -> Tally
+        ensures { result ≡ parted_tally self more }
+    {
+        let parts = u32::from(self.parts) + u32::from(more);
+        if self.passed || parts > 1024 {
+            return self.full();
+        }
+        Tally {
+            parts: parts as u16,
+            ..self
+        }
     }
-    let n = m.parts as u32 + parts as u32;
-    if n > 1024 {
-        return full(m);
-    }
-    Tally {
-        statements: m.statements,
-        parts: n as u16,
-        acts: m.acts,
-        large: m.large,
-        passed: m.passed,
-    }
-}
 
-// Z7 to Z9: something is too large.
-pub fn marked(m: Tally, big: bool) -> Tally
-    ensures { result ≡ marked_tally m big }
-{
-    if big {
-        return Tally {
-            statements: m.statements,
-            parts: m.parts,
-            acts: m.acts,
-            large: true,
-            passed: m.passed,
-        };
+    // Z7 to Z9: something is too large.
+    #[tactic(auto, unfolding(crate::specs::Tally::marked_tally))]
+    pub fn marked(self, big: bool) -> Tally
+        ensures { result ≡ marked_tally self big }
+    {
+        Tally {
+            large: self.large || big,
+            ..self
+        }
     }
-    m
-}
 
-// Z9: so many levels are open, and so many more.
-pub fn deep(m: Tally, around: u8, levels: u8) -> Tally
-    ensures { result ≡ deep_tally m around levels }
-{
-    marked(m, around as u16 + levels as u16 > 32)
-}
-
-// An expression with so many levels open around.
-pub fn term(m: Tally, around: u8, parts: u16, levels: u8) -> Tally
-    ensures { result ≡ term_tally m around parts levels }
-{
-    deep(parted(m, parts), around, levels)
-}
-
-// The activities that are known.
-pub fn with_acts(m: Tally, acts: u16) -> Tally
-    ensures { result ≡ acts_tally m acts }
-{
-    Tally {
-        statements: m.statements,
-        parts: m.parts,
-        acts,
-        large: m.large,
-        passed: m.passed,
+    // Z9: so many levels are open, and so many more.
+    #[tactic(auto, unfolding(crate::specs::Tally::deep_tally))]
+    pub fn deep(self, around: u8, levels: u8) -> Tally
+        ensures { result ≡ deep_tally self around levels }
+    {
+        self.marked(u16::from(around) + u16::from(levels) > 32)
     }
-}
 
-// A branch ends: so many stood before it.
-pub fn summed(m: Tally, before: u16) -> Tally
-    ensures { result ≡ summed_tally m before }
-{
-    let n = before as u32 + m.acts as u32;
-    if n > 256 {
-        return with_acts(m, 256);
+    // An expression with so many levels open around.
+    #[tactic(auto, unfolding(crate::specs::Tally::term_tally))]
+    pub fn term(self, around: u8, parts: u16, levels: u8) -> Tally
+        ensures { result ≡ term_tally self around parts levels }
+    {
+        self.parted(parts).deep(around, levels)
     }
-    with_acts(m, n as u16)
-}
 
-// Z8: a parallel ends: so many stood before it.
-pub fn together(m: Tally, before: u16) -> Tally
-    ensures { result ≡ together_tally m before }
-{
-    let k = marked(m, m.acts > 8);
-    if m.acts < before {
-        return with_acts(k, before);
+    // The activities that are known.
+    pub fn with_acts(self, acts: u16) -> Tally
+        ensures { result ≡ acts_tally self acts }
+    {
+        Tally { acts, ..self }
     }
-    k
+
+    // A branch ends: so many stood before it.
+    pub fn summed(self, before: u16) -> Tally
+        ensures { result ≡ summed_tally self before }
+    {
+        self.with_acts(before.saturating_add(self.acts).min(256))
+    }
+
+    // Z8: a parallel ends: so many stood before it.
+    #[tactic(auto, unfolding(crate::specs::Tally::together_tally))]
+    pub fn together(self, before: u16) -> Tally
+        ensures { result ≡ together_tally self before }
+    {
+        self.marked(self.acts > 8).with_acts(before.max(self.acts))
+    }
 }

@@ -45,20 +45,20 @@ decreases-switch l = l.u.seen * 512 + l.levels * 8
 abbrev pub decreases-while_loop : goal.decreases-while_loop
 decreases-while_loop l = l.u.seen * 512 + l.levels * 8
 
-abbrev pub invariant-branches-loop-u : goal.invariant-branches-loop-u
-invariant-branches-loop-u l = BranchesGoing l.s (beside l.initial.t).names l.u l.levels l.around l.initial.at l.initial.t l.at l.t
+abbrev pub invariant-branches-loop-at : goal.invariant-branches-loop-at
+invariant-branches-loop-at l = BranchesGoing l.s (beside l.initial.t).names l.u l.levels l.around l.initial.at l.initial.t l.at l.t
 
-abbrev pub decreases-branches-loop-u : goal.decreases-branches-loop-u
-decreases-branches-loop-u l = length l.s - l.at.word.place
+abbrev pub decreases-branches-loop-at : goal.decreases-branches-loop-at
+decreases-branches-loop-at l = length l.s - l.at.word.place
 
-abbrev pub invariant-cases-loop-u : goal.invariant-cases-loop-u
-invariant-cases-loop-u l = CasesGoing l.s (beside l.initial.t).names l.u l.levels l.around l.initial.at l.initial.t l.at l.t
+abbrev pub invariant-cases-loop-at : goal.invariant-cases-loop-at
+invariant-cases-loop-at l = CasesGoing l.s (beside l.initial.t).names l.u l.levels l.around l.initial.at l.initial.t l.at l.t
 
-abbrev pub decreases-cases-loop-u : goal.decreases-cases-loop-u
-decreases-cases-loop-u l = length l.s - l.at.word.place
+abbrev pub decreases-cases-loop-at : goal.decreases-cases-loop-at
+decreases-cases-loop-at l = length l.s - l.at.word.place
 
-abbrev pub invariant-list-loop-u : goal.invariant-list-loop-u
-invariant-list-loop-u l = Going l.s (beside l.initial.t).names l.u l.levels l.around l.initial.at l.initial.t l.at l.t
+abbrev pub invariant-list-loop-at : goal.invariant-list-loop-at
+invariant-list-loop-at l = Going l.s (beside l.initial.t).names l.u l.levels l.around l.initial.at l.initial.t l.at l.t
 
-abbrev pub decreases-list-loop-u : goal.decreases-list-loop-u
-decreases-list-loop-u l = length l.s - l.at.word.place
+abbrev pub decreases-list-loop-at : goal.decreases-list-loop-at
+decreases-list-loop-at l = length l.s - l.at.word.place

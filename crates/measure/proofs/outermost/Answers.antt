@@ -15,4 +15,4 @@ shape_of-t c = on_long (c.call-c.ensures 0 (omega arith)).on
 pub returns : goal.returns
 returns c =
     let p = c.requires in
-    outermost-came p.3 p.0 p.1 p.2 c.start.ensures c.inside-v.ensures c.over.ensures c.call-c.ensures refl
+    outermost-came p.3 p.0 p.1 p.2 c.start.ensures c.inside-v.ensures c.over.ensures c.call-c.ensures c.then_some.ensures refl

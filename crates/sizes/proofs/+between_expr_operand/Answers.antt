@@ -8,20 +8,11 @@ use Rattle.sizes.specs.declared.Extent.{Extent}
 use Rattle.sizes.proofs.Laws.{literal_under, truth_under, not_under, int_under, parens_under, joined_under}
 use Rattle.sizes.proofs.+between_expr_operand.Goals as goal
 
-pub between-overflow_add-tier : goal.between-overflow_add-tier
-between-overflow_add-tier t c = omega (arith, c.requires.0.low)
-
 pub between-expr-left-requires : goal.between-expr-left-requires
 between-expr-left-requires t c = (omega (arith, c.decreases, (between-low c.args.tier c.requires.1)), record { near = c.requires.0.near; low = omega (arith, (between-low c.args.tier c.requires.1)); few = c.requires.0.few })
 
 pub between-loop-u-init : goal.between-loop-u-init
 between-loop-u-init t c = between_start c.expr-left.ensures.near
-
-pub between-word_from-v-requires : goal.between-word_from-v-requires
-between-word_from-v-requires t c = (c.requires.0.near.short, c.loop-u.invariant.near.inside)
-
-pub between-overflow_add-tier-in-loop-u : goal.between-overflow_add-tier-in-loop-u
-between-overflow_add-tier-in-loop-u t c = omega (arith, c.requires.0.low)
 
 pub between-expr-right-requires : goal.between-expr-right-requires
 between-expr-right-requires t c = (omega (arith, c.decreases, (between-low c.args.tier c.requires.1)), record { near = c.word_from-v.ensures.near; low = omega (arith, (between-low c.args.tier c.requires.1)); few = c.requires.0.few })
@@ -32,9 +23,6 @@ between-loop-u-smaller t c = rw c.joined-left.ensures (omega (arith, c.loop-u.in
 pub between-loop-u-preserved : goal.between-loop-u-preserved
 between-loop-u-preserved t c = between_on (between-low c.args.tier c.requires.1) (strength_is c.strength_of.result _ c.args.tier c.strength_of.ensures.0 (sym c.ne.ensures ∙ c.if-ne.false)) c.word_from-v.ensures c.expr-right.ensures (ap (λ (x : Extent). x.word) c.joined-left.ensures) (λ op x y e p q. joined_under op _ x y c.joined-left.ensures p q) c.loop-u.invariant
 
-pub expr-overflow_add-tier : goal.expr-overflow_add-tier
-expr-overflow_add-tier t c = omega (arith, c.requires.low)
-
 pub expr-expr-requires : goal.expr-expr-requires
 expr-expr-requires t c = (omega (arith, c.decreases, (before-low c.args.tier _ (rw c.in-Before.is at c.strength_at.ensures))), record { near = c.requires.near; low = omega (arith, (before-low c.args.tier _ (rw c.in-Before.is at c.strength_at.ensures))); few = c.requires.few })
 
@@ -44,26 +32,8 @@ expr-returns-then-first-op t c = before-skip (before-low c.args.tier _ (rw c.in-
 pub expr-returns-then-levels-eq0 : goal.expr-returns-then-levels-eq0
 expr-returns-then-levels-eq0 t c = before-deep (before-low c.args.tier _ (rw c.in-Before.is at c.strength_at.ensures)) (rw c.in-Before.is at c.strength_at.ensures) c.if-first-op.false c.if-levels-eq0.true c.requires.near (ap (λ (x : Extent). x.word) c.leaf.ensures)
 
-pub expr-word_from-inner-requires : goal.expr-word_from-inner-requires
-expr-word_from-inner-requires t c = (c.requires.near.short, c.requires.near.inside)
-
-pub expr-overflow_sub-levels : goal.expr-overflow_sub-levels
-expr-overflow_sub-levels t c = omega (arith, c.if-levels-eq0.false)
-
-pub expr-expr-g-requires : goal.expr-expr-g-requires
-expr-expr-g-requires t c = (omega (arith, c.decreases, c.if-levels-eq0.false), record { near = c.word_from-inner.ensures.near; low = c.requires.low; few = omega (arith, c.requires.few) })
-
-pub expr-returns-in-Before : goal.expr-returns-in-Before
-expr-returns-in-Before t c = before_on (before-low c.args.tier _ (rw c.in-Before.is at c.strength_at.ensures)) (rw c.in-Before.is at c.strength_at.ensures) c.if-first-op.false c.requires.near c.word_from-inner.ensures c.expr-g.ensures (ap (λ (x : Extent). x.word) c.over.ensures) (λ x p. not_under c.over.ensures p)
-
-pub expr-between-requires : goal.expr-between-requires
-expr-between-requires t c = (omega (arith, c.decreases), (c.requires, rw c.in-Between.is at c.strength_at.ensures))
-
 pub expr-returns-in-Between : goal.expr-returns-in-Between
 expr-returns-in-Between t c = c.between.ensures
-
-pub expr-operand-requires : goal.expr-operand-requires
-expr-operand-requires t c = (omega (arith, c.decreases), (c.requires, rw c.in-Operand.is at c.strength_at.ensures))
 
 pub expr-returns-in-Operand : goal.expr-returns-in-Operand
 expr-returns-in-Operand t c = c.operand.ensures
@@ -94,3 +64,6 @@ operand-returns-else-levels-eq0 t c = operand_open c.requires.1 (rw c.in-Some-Op
 
 pub operand-returns-else-levels-eq0-2 : goal.operand-returns-else-levels-eq0-2
 operand-returns-else-levels-eq0-2 t c = operand-int c.requires.1 (rw c.in-Some-Int.field-0-is at c.in-Some-Int.ensures) (λ z. omega arith) (λ z. omega arith) c.requires.0.near c.word_from-second-in-Some-Int.ensures c.word_from-third.ensures c.expr-g-in-Some-Int.ensures c.word_from-in-Some-Int.ensures (ap (λ (x : Extent). x.word) c.over.ensures) (λ x p. int_under c.over.ensures p)
+
+pub expr-returns-else-levels-eq0 : goal.expr-returns-else-levels-eq0
+expr-returns-else-levels-eq0 t c = before_on (before-low c.args.tier _ (rw c.in-Before.is at c.strength_at.ensures)) (rw c.in-Before.is at c.strength_at.ensures) c.if-first-op.false c.requires.near c.word_from-inner.ensures c.expr-g.ensures (ap (λ (x : Extent). x.word) c.over.ensures) (λ x p. not_under c.over.ensures p)
