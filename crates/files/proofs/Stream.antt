@@ -3,7 +3,7 @@
 use mathlib.Core.Path.{◌≡◌, refl, sym, ap, ap₂, ◌∙◌, subst}
 use mathlib.Core.Logic.{◌⊎◌, inl, inr}
 use lib.Pow.{pow_mono}
-use Rattle.rows.proofs.Changes.{lt_or_ge}
+use Rattle.std.proofs.lemmas.Bool.{cases_lt}
 use mathlib.Core.List.{List, [], ◌∷◌, ◌++◌}
 use Prim.Native.Nat.{ℕ, zero, suc, ◌+◌, ◌-◌, ◌*◌, ◌/◌, ◌%◌, ◌^◌, ◌<◌, ◌≤◌}
 use lib.ListN.{length, get_or, set, length-set, get_or-eq_default}
@@ -194,7 +194,7 @@ column inputs k v e h = let p : 2 ^ k ≤ 64 = pow_mono {j = 6} h in omega (arit
 -- two bytes more of a piece
 pub piece_more : (s p : List ℕ) (from e v : ℕ) → length p ≡ 504 → e < 252 → ((j : ℕ) → j < 2 * e → get_or p j 0 ≡ get_or s (2 * from + j) 0) → WordIs s (from + e) v
     → (j : ℕ) → j < 2 * (e + 1) → get_or (set (set p (2 * e) (v % 256)) (2 * e + 1) (v / 256 % 256)) j 0 ≡ get_or s (2 * from + j) 0
-piece_more s p from e v long h old is j b = go (lt_or_ge j (2 * e))
+piece_more s p from e v long h old is j b = go (cases_lt j (2 * e))
   where
     q : List ℕ
     q = set p (2 * e) (v % 256)

@@ -7,9 +7,5 @@ ghost use Rattle.std.specs.Prelude.{◌≡◌, length, replicate};
 pub fn wipe(work: &mut [u8])
     ensures { work.new ≡ replicate (length work.old) 0 }
 {
-    let mut j: usize = 0;
-    while j < work.len() {
-        work[j] = 0;
-        j += 1;
-    }
+    work.fill(0);
 }
