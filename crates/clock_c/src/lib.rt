@@ -5,8 +5,6 @@ ghost use Rattle.std.specs.Prelude.{◌≡◌, ◌%◌, length};
 ghost use Rattle.nodes.specs.Ready.{Ready};
 ghost use Rattle.clock_c.specs.Ran.{Ran, RunsTo};
 
-use source::Told;
-
 // The clock's fuel: three for each of 512 statements and case tests.
 const FUEL: u16 = 1536;
 
@@ -45,20 +43,11 @@ pub extern "C" fn windnadel_clocks(text: &[u8], inputs: &[u8]) -> u64
     ensures { Ran text.now inputs.now result }
 {
     let mut work = area();
-    let told = source::read(text, &mut work);
-    match told {
-        Told::Fault { number, place } => {
-            return 0;
-        }
-        Told::Good {
-            n,
-            inputs: k,
-            outputs,
-            word,
-        } => {
+    match source::read(text, &mut work) {
+        Ok(p) => {
             let tree = source::tree(&work);
-            let last = run(&tree, n, FUEL, word, inputs);
-            return last as u64;
+            u64::from(run(&tree, p.n, FUEL, p.word, inputs))
         }
+        Err(_) => 0,
     }
 }

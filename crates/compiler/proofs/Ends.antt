@@ -2,6 +2,7 @@
 -- Assumes nothing.
 use mathlib.Core.Path.{◌≡◌, refl, sym, ap, ◌∙◌, subst}
 use mathlib.Core.List.{List, ◌++◌}
+use Rattle.std.specs.Prelude.{Result, Err}
 use Prim.Native.Nat.{ℕ, ◌+◌, ◌-◌, ◌*◌, ◌/◌, ◌%◌, ◌^◌, ◌<◌, ◌≤◌}
 use lib.ListN.{length, get_or, take, drop, length-drop}
 use lib.Pow.{pow_mono}
@@ -34,8 +35,9 @@ use Rattle.compiler.specs.Answered.{lent, ended, EndsSo}
 use Rattle.source.specs.Says.{ReadDone}
 use Rattle.source.proofs.Lent.{back, back-rest, back_long}
 use Rattle.parts.proofs.Beside.{whole-rest}
-use Rattle.source.specs.declared.Told.{Told}
-use Rattle.source.specs.declared.Told.TheVariants.{Fault}
+use Rattle.source.specs.declared.Program as read
+use Rattle.refusals.specs.declared.Refusal.{Refusal}
+use Rattle.refusals.specs.Number.{number_of}
 use Rattle.compiler.specs.declared.Compiled.{Compiled}
 use Rattle.compiler.specs.declared.Compiled.TheVariants as compiled
 
@@ -188,8 +190,8 @@ searched_back m room n xs ys h r x =
 -- ---- what the callees say, and what follows
 
 -- a fault that was read
-pub fault-ends : (source area : List ℕ) (t : Told) {room number place : ℕ} {work buffer : List ℕ} → ReadDone source area t → t ≡ Fault number place
-    → Ready (lent source room work buffer) → EndsSo source room (length work) buffer (compiled.Refused number place) buffer
+pub fault-ends : (source area : List ℕ) (t : Result read.Program (Refusal ℕ)) {room : ℕ} {q : Refusal ℕ} {work buffer : List ℕ} → ReadDone source area t → t ≡ Err q
+    → Ready (lent source room work buffer) → EndsSo source room (length work) buffer (compiled.Refused (number_of q.cause) q.place) buffer
 fault-ends source area t d e r w h = fault (ready_for w h r) (subst (ReadDone source area) e d)
 
 module _ {source tree : List ℕ} {task : Task} {k o : ℕ} (g : Known source tree task k o) {work buffer : List ℕ} (ready : Ready (lent source task.room work buffer))

@@ -8,7 +8,6 @@ ghost use Rattle.compiler.specs.Answered.{lent, ended, EndsSo};
 
 use files::Filed;
 use search::{Task, Turn};
-use source::Told;
 
 mod behind;
 
@@ -70,26 +69,23 @@ fn answer(source: &[u8], room: u32, work: &mut [u8], file: &mut [u8]) -> Compile
     requires { Ready (lent source.now room work.old file.old) }
     ensures { EndsSo source.now room (length work.old) file.old result file.new × (length work.new ≡ length work.old) }
 {
-    let told = source::read(source, work);
-    match told {
-        Told::Fault { number, place } => {
-            return Compiled::Refused { number, place };
+    match source::read(source, work) {
+        Err(r) => {
+            return Compiled::Refused {
+                number: r.cause.number(),
+                place: r.place,
+            };
         }
-        Told::Good {
-            n,
-            inputs,
-            outputs,
-            word,
-        } => {
+        Ok(p) => {
             let tree = source::tree(work);
             let task = Task {
-                count: n,
+                count: p.n,
                 left: FUEL,
-                word,
-                inputs: files::pow2(inputs) as u32,
+                word: p.word,
+                inputs: files::pow2(p.inputs) as u32,
                 room: room as usize,
             };
-            return finish(source, &tree, task, inputs, outputs, work, 16384, file);
+            return finish(source, &tree, task, p.inputs, p.outputs, work, 16384, file);
         }
     }
 }

@@ -3,19 +3,19 @@
 use mathlib.Core.Path.{◌≡◌, sym, ◌∙◌, ap, subst}
 use mathlib.Core.Bool.{Bool}
 use mathlib.Core.List.{List, [], ◌++◌, append-nil}
-use Prim.Native.Nat.{ℕ, ◌+◌, ◌-◌, ◌*◌, ◌≤◌, ◌<◌}
+use Prim.Native.Nat.{ℕ, ◌+◌, ◌-◌, ◌≤◌, ◌<◌}
 use native.Mathlib.Omega.{arith}
-use native.Mathlib.Decide.{dec_lt}
-use lib.ListN.{length, get_or, set, take, drop, length-drop, length-append, drop_of_length-le}
-use lib.Seq.{take_at, drop_at, get_or-take, get_or-drop, get_or-set_same, get_or-set_other, length-take-le, ext_get_or}
+use Rattle.std.specs.Prelude.{Result, Ok}
+use Rattle.refusals.specs.declared.Refusal.{Refusal}
+use lib.ListN.{length, get_or, take, drop, replicate, length-drop, length-append, get_or-append, drop_of_length-le}
+use Rattle.std.proofs.lemmas.List.{length-replicate, get_or-replicate}
+use lib.Seq.{take_at, drop_at, get_or-take, get_or-drop, length-take-le}
 use Rattle.decls.specs.declared.Read.{Read}
 use Rattle.decls.specs.Came.{Came}
 use Rattle.parts.specs.Beside.{tree_bytes, beside}
 use Rattle.parts.proofs.Beside.{same_size, whole-rest}
 use Rattle.hand.specs.declared.Here.{Here}
-use Rattle.hand.specs.Along.{Near}
 use Rattle.grammar.specs.Meaning.{Says}
-use Rattle.grammar.specs.declared.Checked.TheVariants.{Grammatical}
 use Rattle.items.specs.declared.Marks.{Marks}
 use Rattle.items.specs.declared.Read as items
 use Rattle.items.specs.Came.{All}
@@ -24,8 +24,7 @@ use Rattle.frames.specs.declared.Under.{Under}
 use Rattle.wides.specs.Fill.{FilledBehind}
 use Rattle.source.specs.Area.{tree_of, Listed, Prepared}
 use Rattle.source.specs.Says.{ReadDone}
-use Rattle.source.specs.declared.Told.{Told}
-use Rattle.source.specs.declared.Told.TheVariants.{Good}
+use Rattle.source.specs.declared.Program.{Program}
 use Rattle.told_law.proofs.Entered.{Entered, program_entered}
 
 -- a part from n on comes back as ys
@@ -49,6 +48,13 @@ module _ (n : ℕ) (xs ys : List ℕ) (h : n ≤ length xs) where
 
   pub listed_back : {s : List ℕ} {r : Read} → Came s (take (length xs - n) (drop n xs)) ys r → Listed n s xs back r
   listed_back {s} {r} c = let whole : Came s (drop n xs) ys r = rw (whole-rest n xs) at c in record { came = rw back-rest whole; front = back-front; long = back_long whole.long }
+
+-- the first 32,768 bytes cleared
+pub cleared : (t x : List ℕ) → 32768 ≤ length t → x ≡ replicate (length (take 32768 t)) 0 → (length (x ++ drop 32768 t) ≡ length t) × ((i : ℕ) → i < 32768 → get_or (x ++ drop 32768 t) i 0 ≡ 0)
+cleared t x h e =
+    let long : length (take 32768 t) ≡ 32768 = length-take-le 32768 t h in
+    let all : length x ≡ 32768 = ap length e ∙ length-replicate (length (take 32768 t)) 0 ∙ long in
+    (omega (arith, length-append x (drop 32768 t), length-drop 32768 t), λ i g. get_or-append x (drop 32768 t) 0 i (omega arith) ∙ ap (λ (l : List ℕ). get_or l i 0) e ∙ get_or-replicate (length (take 32768 t)) i 0 0 (omega arith))
 
 pub tree_at : (t : List ℕ) (q : ℕ) → q < tree_bytes → get_or (tree_of t) q 0 ≡ get_or t q 0
 unfolding tree_of
@@ -79,7 +85,7 @@ prepared {s} {t} {a} {b} {u} {r} room same zeros x y =
       long = y.long ∙ x.long ∙ same;
     }
 
-pub area_entered : {s t u : List ℕ} {r : Read} → Says s Grammatical → (x : Prepared s t u r) → Entered s x.before x.listed r
+pub area_entered : {s t u : List ℕ} {r : Read} → Says s (Ok tt) → (x : Prepared s t u r) → Entered s x.before x.listed r
 area_entered says x = program_entered x.room says x.came
 
 -- the number of bytes stays
@@ -87,28 +93,11 @@ pub all-long : {s z : List ℕ} {count : ℕ} {under : Under} {k : ℕ} {l b : B
 unfolding beside
 all-long x = same_size x.on.kept
 
--- the declared names fit behind the tree
-pub names_fit : {s t u : List ℕ} {r : Read} → 32768 ≤ length t → (x : Prepared s t u r) → Near s r.word × (16384 + r.marks.names * 4 ≤ length u)
-names_fit room x = (x.came.near, omega (arith, room, x.came.few, x.long))
-
--- ---- loops over the bytes
-
-pub one_more : (f : ℕ → ℕ) (t : List ℕ) (j : ℕ) → j < length t → ((i : ℕ) → i < j → get_or t i 0 ≡ f i) → (i : ℕ) → i ≤ j → get_or (set t j (f j)) i 0 ≡ f i
-one_more f t j room done i h = go (dec_lt i j)
-  where
-    go : Dec (i < j) → get_or (set t j (f j)) i 0 ≡ f i
-    go (yes k) = get_or-set_other t j i (f j) 0 (λ e. omega arith) ∙ done i k
-    go (no k) = let e : i ≡ j = omega arith in rw e (get_or-set_same t j (f j) 0 room)
-
-pub copied : (t work : List ℕ) → length t ≡ tree_bytes → tree_bytes ≤ length work → ((i : ℕ) → i < tree_bytes → get_or t i 0 ≡ get_or work i 0) → t ≡ tree_of work
-unfolding tree_of
-copied t work e h f = ext_get_or 0 t (take tree_bytes work) (e ∙ sym (length-take-le tree_bytes work h)) (λ i k. f i (omega arith) ∙ sym (get_or-take tree_bytes work i 0 (omega arith)))
-
 -- ---- a program that was read
 
-pub good-stored : (source area : List ℕ) (t : Told) {n k o word : ℕ} → ReadDone source area t → t ≡ Good n k o word → Stored source (tree_of area) n k o word
+pub good-stored : (source area : List ℕ) (t : Result Program (Refusal ℕ)) {p : Program} → ReadDone source area t → t ≡ Ok p → Stored source (tree_of area) p.n p.inputs p.outputs p.word
 good-stored source area t d e = subst (ReadDone source area) e d
 
 -- .. its tree copied
-pub good_copied : (source area : List ℕ) (t : Told) {tree : List ℕ} {n k o word : ℕ} → ReadDone source area t → t ≡ Good n k o word → tree ≡ tree_of area → Stored source tree n k o word
-good_copied source area t {n = n} {k} {o} {word} d e q = subst (λ (x : List ℕ). Stored source x n k o word) (sym q) (good-stored source area t d e)
+pub good_copied : (source area : List ℕ) (t : Result Program (Refusal ℕ)) {tree : List ℕ} {p : Program} → ReadDone source area t → t ≡ Ok p → tree ≡ tree_of area → Stored source tree p.n p.inputs p.outputs p.word
+good_copied source area t {p = p} d e q = subst (λ (x : List ℕ). Stored source x p.n p.inputs p.outputs p.word) (sym q) (good-stored source area t d e)

@@ -28,21 +28,13 @@ pub enum Next {
     Over,
 }
 
-// The place of refusal 4, if there is one.
-#[derive(Clone, Copy)]
-pub enum Stop {
-    At(usize),
-    None,
-}
-
 // The reserved word or the name that starts at a place.
 fn name_at(s: &[u8], at: usize) -> Next
     requires { (at < length s.now) × (letter (get_or s.now at 0) ≡ true) }
     ensures { Stands s.now at result }
 {
     let end = scan::name_end(s, at);
-    let k = spellings::reserved(s, at, end);
-    if k < spellings::SPELLINGS {
+    if let Some(k) = spellings::reserved(s, at, end) {
         return Next::Found(Word {
             kind: 2 + k as u8,
             start: at,
@@ -84,16 +76,15 @@ fn sign_at(s: &[u8], at: usize) -> Next
     requires { (at < length s.now) × (letter (get_or s.now at 0) ≡ false) × (digit (get_or s.now at 0) ≡ false) }
     ensures { Stands s.now at result }
 {
-    let k = spellings::sign(s, at);
-    if k < spellings::SIGNS {
-        return Next::Found(Word {
-            kind: 2 + k as u8,
-            start: at,
-            end: at + spellings::sign_length(k),
-            value: 0,
-        });
-    }
-    Next::Stops(at)
+    let Some(k) = spellings::sign(s, at) else {
+        return Next::Stops(at);
+    };
+    Next::Found(Word {
+        kind: 2 + k as u8,
+        start: at,
+        end: at + spellings::sign_length(k),
+        value: 0,
+    })
 }
 
 // The word that starts at a place.
@@ -121,27 +112,24 @@ pub fn next_word(s: &[u8], from: usize) -> Next
 }
 
 // The place of refusal 4 from a place on: for any bytes and any place.
-pub fn stop_from(s: &[u8], place: usize) -> Stop
+pub fn stop_from(s: &[u8], place: usize) -> Option<usize>
     ensures { result ≡ stop_of (words_from s.now place) }
 {
     if s.len() < place {
-        return Stop::None;
+        return None;
     }
     let mut from = place;
     loop {
         match next_word(s, from) {
-            Next::Found(w) => {
-                from = w.end;
-                continue;
-            }
-            Next::Stops(e) => return Stop::At(e),
-            Next::Over => return Stop::None,
+            Next::Found(w) => from = w.end,
+            Next::Stops(e) => return Some(e),
+            Next::Over => return None,
         }
     }
 }
 
 // The place of refusal 4 in the whole text.
-pub fn first_stop(s: &[u8]) -> Stop
+pub fn first_stop(s: &[u8]) -> Option<usize>
     ensures { result ≡ stop_of (words_of s.now) }
 {
     stop_from(s, 0)

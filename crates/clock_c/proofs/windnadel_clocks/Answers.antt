@@ -6,10 +6,10 @@ use Rattle.source.proofs.Lent.{good_copied}
 use Rattle.clock_c.proofs.Laws.{ran_refused, ran_good}
 use Rattle.clock_c.proofs.windnadel_clocks.Goals as goal
 
-pub returns-in-Fault : goal.returns-in-Fault
-returns-in-Fault c = ran_refused (subst (ReadDone c.args.text.now c.read-told.new.work) c.in-Fault.is c.read-told.ensures.0)
+pub returns-in-Ok : goal.returns-in-Ok
+returns-in-Ok c =
+    let g = good_copied c.args.text.now c.read.new.work c.read.result c.read.ensures.0 c.in-Ok.is c.tree-tree.ensures in
+    ran_good 1536 (omega (arith, g.few)) g c.run.ensures
 
-pub returns-in-Good : goal.returns-in-Good
-returns-in-Good c =
-    let g = good_copied c.args.text.now c.read-told.new.work c.read-told.result c.read-told.ensures.0 c.in-Good.is c.tree-tree.ensures in
-    ran_good 1536 (omega (arith, g.few)) g c.run-last.ensures
+pub returns-in-Err : goal.returns-in-Err
+returns-in-Err c = ran_refused (subst (ReadDone c.args.text.now c.read.new.work) c.in-Err.is c.read.ensures.0)
