@@ -69,12 +69,7 @@ fn finish(
 }
 
 // What is said of a text, with room and work area as they should be.
-fn answer(
-    source: &[u8],
-    room: u32,
-    work: &mut [u8],
-    file: &mut [u8],
-) -> Result<Made, Refusal<u32>>
+fn answer(source: &[u8], room: u32, work: &mut [u8], file: &mut [u8]) -> Result<Made, Refusal<u32>>
     requires { Ready (lent source.now room work.old file.old) }
     ensures { EndsSo source.now room (length work.old) file.old result file.new × (length work.new ≡ length work.old) }
 {

@@ -4,10 +4,10 @@ use Rattle.compiler.proofs.compile.Goals as goal
 use Rattle.compiler.proofs.compile.Goals.{then-room-lt1-via-then-room-lt1, then-room-lt1-via-else-room-lt1+then-room-gt256}
 
 pub returns-then-room-lt1 : goal.returns-then-room-lt1
-returns-then-room-lt1 c = 
+returns-then-room-lt1 c =
     elim c.then-room-lt1.branch [
-      then-room-lt1-via-then-room-lt1 w ↦ one (inl w.if-room-lt1.true)
-    | then-room-lt1-via-else-room-lt1+then-room-gt256 w ↦ one (inr w.if-room-gt256.true)
+      | then-room-lt1-via-then-room-lt1 w ↦ one (inl w.if-room-lt1.true)
+      | then-room-lt1-via-else-room-lt1+then-room-gt256 w ↦ one (inr w.if-room-gt256.true)
     ]
 
 pub returns-then-work-room : goal.returns-then-work-room

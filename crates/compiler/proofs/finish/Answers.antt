@@ -19,11 +19,10 @@ returns-in_default c = let g = known (task_of c.args.p c.pow2.result c.args.room
     (over_so g c.requires.2 (drop 16384 c.args.work.now) (drop 16384 c.search.new.work) c.in_default.ensures.0, c.search.ensures.1)
 
 pub write_file-requires : goal.write_file-requires
-write_file-requires c = let g = known (task_of c.args.p c.pow2.result c.args.room) c.requires.0 c.requires.1 c.pow2.ensures.0 in
-    (
-      small-so g c.requires.2 (drop 16384 c.args.work.now) (drop 16384 c.search.new.work) c.in-Some.n c.in-Some.ensures.0 (behind-long 16384 c.args.work.now (omega arith)),
-      omega (arith, c.requires.2.work, c.search.ensures.1),
-    )
+write_file-requires c = let g = known (task_of c.args.p c.pow2.result c.args.room) c.requires.0 c.requires.1 c.pow2.ensures.0 in (
+  small-so g c.requires.2 (drop 16384 c.args.work.now) (drop 16384 c.search.new.work) c.in-Some.n c.in-Some.ensures.0 (behind-long 16384 c.args.work.now (omega arith)),
+  omega (arith, c.requires.2.work, c.search.ensures.1),
+)
 
 pub returns-in_default-write_file : goal.returns-in_default-write_file
 returns-in_default-write_file c = let g = known (task_of c.args.p c.pow2.result c.args.room) c.requires.0 c.requires.1 c.pow2.ensures.0 in
@@ -31,6 +30,7 @@ returns-in_default-write_file c = let g = known (task_of c.args.p c.pow2.result 
 
 pub returns : goal.returns
 returns c = let g = known (task_of c.args.p c.pow2.result c.args.room) c.requires.0 c.requires.1 c.pow2.ensures.0 in
-    rw c.from.ensures
-    (made_so g c.requires.2 (drop 16384 c.args.work.now) (drop 16384 c.search.new.work) c.in-Some.n c.in-Some.ensures.0 c.write_file.new.file c.in-Some-write_file.blocks c.in-Some-write_file.ensures,
-    c.search.ensures.1)
+    rw c.from.ensures (
+      made_so g c.requires.2 (drop 16384 c.args.work.now) (drop 16384 c.search.new.work) c.in-Some.n c.in-Some.ensures.0 c.write_file.new.file c.in-Some-write_file.blocks c.in-Some-write_file.ensures,
+      c.search.ensures.1,
+    )
