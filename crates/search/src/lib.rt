@@ -14,6 +14,7 @@ use clock::State;
 use rows::{next, row};
 
 // What is searched: a tree's statements and case tests, the clock's fuel, the word at the start, the inputs, and the room.
+// The tree goes beside it: `machine_in` names the bytes and these numbers apart.
 #[derive(Clone, Copy)]
 pub struct Task {
     pub count: u16,
