@@ -2,7 +2,7 @@
 -- Assumes nothing.
 use mathlib.Core.Path.{◌≡◌, refl, sym, ap, ◌∙◌, subst}
 use mathlib.Core.List.{List, ◌++◌}
-use Rattle.std.specs.Prelude.{Result, Err}
+use Rattle.std.specs.Prelude.{Option, Some, None, Err}
 use Prim.Native.Nat.{ℕ, ◌+◌, ◌-◌, ◌*◌, ◌/◌, ◌%◌, ◌^◌, ◌<◌, ◌≤◌}
 use lib.ListN.{length, get_or, take, drop, length-drop}
 use lib.Pow.{pow_mono}
@@ -22,24 +22,18 @@ use Rattle.rows.specs.Area.{row_in, next_in}
 use Rattle.search.specs.Machine.{program_in, machine_in}
 use Rattle.search.specs.Going.{states_in, Sized, Found, Searched}
 use Rattle.search.specs.declared.Task.{Task}
-use Rattle.search.specs.declared.Turn.{Turn}
-use Rattle.search.specs.declared.Turn.TheVariants.{Goes, Over}
 use Rattle.search.proofs.States.{states-length, states_at}
 use Rattle.files.specs.Written.{row_from, table_from, stream_from, Small, Wrote}
-use Rattle.files.specs.declared.Filed.{Filed}
-use Rattle.files.specs.declared.Filed.TheVariants.{Blocks, Short}
 use Rattle.language.specs.Tables.{machine_of, Tabled}
 use Rattle.language.specs.Promise.{Ready, all_zero, FileOf, Compiles, fault, eleven, twelve, made}
 use Rattle.language.proofs.Fits.{no_fault, few-inputs, few-outputs}
-use Rattle.compiler.specs.Answered.{lent, ended, EndsSo}
+use Rattle.compiler.specs.Answered.{file_made, refusal, lent, ended, EndsSo}
 use Rattle.source.specs.Says.{ReadDone}
 use Rattle.source.proofs.Lent.{back, back-rest, back_long}
 use Rattle.parts.proofs.Beside.{whole-rest}
 use Rattle.source.specs.declared.Program as read
+use Rattle.refusals.specs.declared.Cause.TheVariants as cause
 use Rattle.refusals.specs.declared.Refusal.{Refusal}
-use Rattle.refusals.specs.Number.{number_of}
-use Rattle.compiler.specs.declared.Compiled.{Compiled}
-use Rattle.compiler.specs.declared.Compiled.TheVariants as compiled
 
 -- ---- a program that is stored
 
@@ -60,7 +54,11 @@ same_machine q p n w b e =
       inputs = e i;
     }
 
--- what the compile call knows of the program that is stored
+-- what is searched for the program that is stored
+abbrev pub task_of : read.Program → ℕ → ℕ → Task
+task_of p inputs room = record { count = p.n; left = 1536; word = p.word; inputs = inputs; room = room }
+
+-- what the compile call knows of it
 pub record Known (source tree : List ℕ) (task : Task) (k o : ℕ) : Type 0 where
   pub stored : Stored source tree task.count k o task.word
   pub fuel : 3 * task.count ≤ task.left
@@ -140,24 +138,24 @@ module _ {source tree : List ℕ} {task : Task} {k o : ℕ} (g : Known source tr
         record { inputs = k_small g.stored; outputs = o_small g.stored; states = omega (arith, f.fits, r.room.few); area = omega (arith, f.fits, r.work) }
 
     module _ {work buffer : List ℕ} (ready : Ready (lent source task.room work buffer)) where
-      pub ends-short : length buffer < length (file_of (stream_from l k o n)) → Compiles (lent source task.room work buffer) (ended (compiled.Refused 12 0) (all_zero work) buffer)
+      pub ends-short : length buffer < length (file_of (stream_from l k o n)) → Compiles (lent source task.room work buffer) (ended (refusal cause.Buffer 0) (all_zero work) buffer)
       ends-short h = twelve ready g.stored.reads filed fits h
 
       pub ends-made : (b : ℕ) (after : List ℕ) → length (file_of (stream_from l k o n)) ≤ length buffer
           → after ≡ file_of (stream_from l k o n) ++ drop (length (file_of (stream_from l k o n))) buffer → length (file_of (stream_from l k o n)) ≡ 512 * b
-          → Compiles (lent source task.room work buffer) (ended (compiled.Made n b) (all_zero work) after)
+          → Compiles (lent source task.room work buffer) (ended (file_made n b) (all_zero work) after)
       ends-made b after h e w =
           let q : length (file_of (stream_from l k o n)) / 512 ≡ b = omega arith in
-          subst (λ (x : List ℕ). Compiles (lent source task.room work buffer) (ended (compiled.Made n b) (all_zero work) x)) (sym e)
-          (subst (λ (x : ℕ). Compiles (lent source task.room work buffer) (ended (compiled.Made x b) (all_zero work) whole)) (states-length l n)
-          (subst (λ (x : ℕ). Compiles (lent source task.room work buffer) (ended (compiled.Made (length L) x) (all_zero work) whole)) q
+          subst (λ (x : List ℕ). Compiles (lent source task.room work buffer) (ended (file_made n b) (all_zero work) x)) (sym e)
+          (subst (λ (x : ℕ). Compiles (lent source task.room work buffer) (ended (file_made x b) (all_zero work) whole)) (states-length l n)
+          (subst (λ (x : ℕ). Compiles (lent source task.room work buffer) (ended (file_made (length L) x) (all_zero work) whole)) q
           (made ready g.stored.reads filed fits h)))
         where
           whole : List ℕ
           whole = file_of (stream_from l k o n) ++ drop (length (file_of (stream_from l k o n))) buffer
 
   pub ends_over : {work buffer : List ℕ} → Ready (lent source task.room work buffer) → TooMany (machine_in tree task) task.room
-      → Compiles (lent source task.room work buffer) (ended (compiled.Refused 11 0) (all_zero work) buffer)
+      → Compiles (lent source task.room work buffer) (ended (refusal cause.States 0) (all_zero work) buffer)
   ends_over ready t = eleven ready g.stored.reads (subst (λ (m : Machine State). TooMany m task.room) machine t)
 
   pub sized : {work buffer area : List ℕ} → Ready (lent source task.room work buffer) → length work ≤ 16384 + length area → Sized (machine_in tree task) task.room area
@@ -176,12 +174,12 @@ ready_for other e r = record { room = r.room; work = omega (arith, r.work) }
 pub behind-long : (at : ℕ) (work : List ℕ) → at ≤ 16384 → length work ≤ 16384 + length (drop at work)
 behind-long at work h = omega (arith, length-drop at work)
 
-searched_long : (m : Machine State) (room : ℕ) (l k : List ℕ) (r : Turn) → Searched m room l r k → length k ≡ length l
-searched_long m room l k (Goes n) x = x.1
-searched_long m room l k Over x = x.1
+searched_long : (m : Machine State) (room : ℕ) (l k : List ℕ) (r : Option ℕ) → Searched m room l r k → length k ≡ length l
+searched_long m room l k (Some n) x = x.1
+searched_long m room l k None x = x.1
 
 -- .. given back after the search
-pub searched_back : (m : Machine State) (room n : ℕ) (xs ys : List ℕ) (h : n ≤ length xs) (r : Turn) → Searched m room (take (length xs - n) (drop n xs)) r ys
+pub searched_back : (m : Machine State) (room n : ℕ) (xs ys : List ℕ) (h : n ≤ length xs) (r : Option ℕ) → Searched m room (take (length xs - n) (drop n xs)) r ys
     → Searched m room (drop n xs) r (drop n (back n xs ys h)) × (length (back n xs ys h) ≡ length xs)
 searched_back m room n xs ys h r x =
     let whole : Searched m room (drop n xs) r ys = subst (λ (l : List ℕ). Searched m room l r ys) (whole-rest n xs) x in
@@ -190,39 +188,27 @@ searched_back m room n xs ys h r x =
 -- ---- what the callees say, and what follows
 
 -- a fault that was read
-pub fault-ends : (source area : List ℕ) (t : Result read.Program (Refusal ℕ)) {room : ℕ} {q : Refusal ℕ} {work buffer : List ℕ} → ReadDone source area t → t ≡ Err q
-    → Ready (lent source room work buffer) → EndsSo source room (length work) buffer (compiled.Refused (number_of q.cause) q.place) buffer
-fault-ends source area t d e r w h = fault (ready_for w h r) (subst (ReadDone source area) e d)
+pub fault-ends : (source area : List ℕ) (r : Refusal ℕ) {room : ℕ} {work buffer : List ℕ} → ReadDone source area (Err r)
+    → Ready (lent source room work buffer) → EndsSo source room (length work) buffer (Err r) buffer
+fault-ends source area r d ready w h = fault (ready_for w h ready) d
 
 module _ {source tree : List ℕ} {task : Task} {k o : ℕ} (g : Known source tree task k o) {work buffer : List ℕ} (ready : Ready (lent source task.room work buffer))
-    (area : List ℕ) (behind : length work ≤ 16384 + length area) (r : Turn) (l : List ℕ) (s : Searched (machine_in tree task) task.room area r l) where
+    (area l : List ℕ) where
   -- more states than the room
-  pub over_so : r ≡ Over → (q : Compiled) → q ≡ compiled.Refused 11 0 → EndsSo source task.room (length work) buffer q buffer
-  over_so e q is w h = let (t, long) = subst (λ (x : Turn). Searched (machine_in tree task) task.room area x l) e s in rw is (ends_over g (ready_for w h ready) t)
+  pub over_so : Searched (machine_in tree task) task.room area None l → EndsSo source task.room (length work) buffer (refusal cause.States 0) buffer
+  over_so s w h = ends_over g (ready_for w h ready) s.0
 
-  module _ (n : ℕ) (e : r ≡ Goes n) where
-    found : Found (machine_in tree task) task.room l n × (length l ≡ length area)
-    found = subst (λ (x : Turn). Searched (machine_in tree task) task.room area x l) e s
-
+  module _ (n : ℕ) (s : Searched (machine_in tree task) task.room area (Some n) l) where
     pub few-states : n < 65536
-    few-states = omega (arith, found.0.fits, ready.room.few)
+    few-states = omega (arith, s.0.fits, ready.room.few)
 
-    pub small-so : Small l k o n
-    small-so = small g found.0 ready (omega (arith, behind, found.1))
+    pub small-so : length work ≤ 16384 + length area → Small l k o n
+    small-so behind = small g s.0 ready (omega (arith, behind, s.1))
 
-    module _ (f : Filed) (after : List ℕ) (w : Wrote buffer (file_of (stream_from l k o n)) f after) where
-      -- a buffer that is too short
-      pub short-so : f ≡ Short → (q : Compiled) → q ≡ compiled.Refused 12 0 → EndsSo source task.room (length work) buffer q after
-      short-so d q is x h = rw (is, same.1) (ends-short g found.0 (ready_for x h ready) same.0)
-        where
-          same : (length buffer < length (file_of (stream_from l k o n))) × (after ≡ buffer)
-          same = subst (λ (x : Filed). Wrote buffer (file_of (stream_from l k o n)) x after) d w
+    -- a buffer that is too short
+    pub short-so : (after : List ℕ) → Wrote buffer (file_of (stream_from l k o n)) None after → EndsSo source task.room (length work) buffer (refusal cause.Buffer 0) after
+    short-so after w x h = rw w.1 (ends-short g s.0 (ready_for x h ready) w.0)
 
-      -- a file
-      pub made_so : (b : ℕ) → f ≡ Blocks b → EndsSo source task.room (length work) buffer (compiled.Made n b) after
-      made_so b d x h = ends-made g found.0 (ready_for x h ready) b after is.0 is.1 is.2
-        where
-          is : (length (file_of (stream_from l k o n)) ≤ length buffer)
-              × (after ≡ file_of (stream_from l k o n) ++ drop (length (file_of (stream_from l k o n))) buffer)
-              × (length (file_of (stream_from l k o n)) ≡ 512 * b)
-          is = subst (λ (x : Filed). Wrote buffer (file_of (stream_from l k o n)) x after) d w
+    -- a file
+    pub made_so : (after : List ℕ) (b : ℕ) → Wrote buffer (file_of (stream_from l k o n)) (Some b) after → EndsSo source task.room (length work) buffer (file_made n b) after
+    made_so after b w x h = ends-made g s.0 (ready_for x h ready) b after w.0 w.1 w.2

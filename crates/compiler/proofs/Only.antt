@@ -1,25 +1,29 @@
 -- No second answer, work area or file buffer satisfies the promise of compile, nor of its form for C, whose number tells the answer.
 -- Assumes nothing.
-use mathlib.Core.Path.{◌≡◌, sym, ap, ap₂, ◌∙◌}
+use mathlib.Core.Path.{◌≡◌, sym, ap, ◌∙◌}
 use mathlib.Core.List.{List}
 use Prim.Native.Nat.{ℕ}
-use native.Mathlib.Omega.{arith}
-use Rattle.file_law.proofs.Answers.{same}
+use Rattle.file_law.proofs.Answers.{never, same}
 use Rattle.language.specs.Promise.{Made, Lent, Ended, Compiles}
 use Rattle.language.proofs.OneAnswer.{one_answer}
-use Rattle.compiler.specs.Answered.{meaning, ended}
+use Rattle.refusals.specs.declared.Refusal.{Refusal}
+use Rattle.refusals.specs.Number.{number_of}
+use Rattle.refusals.proofs.Only.{same_refusal}
+use Rattle.std.specs.Prelude.{Ok, Err}
+use Rattle.compiler.specs.Answered.{Compiled, file_made, meaning, ended}
 use Rattle.code_law.specs.Code.{code_of}
 use Rattle.code_law.proofs.Compile as told
 use Rattle.compiler.specs.Code.{Coded}
-use Rattle.compiler.specs.declared.Compiled.{Compiled}
-use Rattle.compiler.specs.declared.Compiled.TheVariants as compiled
 
 -- two answers with one meaning are one
 pub one : (a b : Compiled) → meaning a ≡ meaning b → a ≡ b
-one (compiled.Made n k) (compiled.Made m j) e = ap₂ compiled.Made (ap (λ (x : Made). x.states) (same e)) (ap (λ (x : Made). x.blocks) (same e))
-one (compiled.Made n k) (compiled.Refused x p) e = let z : ◌≡◌ {A = ℕ} 0 1 = cc in absurd (omega arith)
-one (compiled.Refused x p) (compiled.Made n k) e = let z : ◌≡◌ {A = ℕ} 0 1 = cc in absurd (omega arith)
-one (compiled.Refused x p) (compiled.Refused y q) e = cc
+one (Ok m) (Ok n) e = ap (λ (x : Made). file_made x.states x.blocks) (same e)
+one (Ok m) (Err r) e = absurd (never e)
+one (Err r) (Ok m) e = absurd (never (sym e))
+one (Err r) (Err q) e =
+    let n : number_of r.cause ≡ number_of q.cause = cc in
+    let p : r.place ≡ q.place = cc in
+    ap (λ (x : Refusal ℕ). Err x) (same_refusal r q n p)
 
 module _ (l : Lent) {work other buffer another : List ℕ} where
   pub compile_only : (a b : Compiled) → Compiles l (ended a work buffer) → Compiles l (ended b other another) → (a ≡ b) × (work ≡ other) × (buffer ≡ another)

@@ -2,8 +2,7 @@
 -- Assumes nothing.
 use Rattle.std.specs.Prelude.{List, ℕ, ◌*◌, take}
 use Rattle.language.specs.Promise.{Compiles}
-use Rattle.compiler.specs.Answered.{lent, ended}
-use Rattle.compiler.specs.declared.Compiled.{Compiled}
+use Rattle.compiler.specs.Answered.{Compiled, lent, ended}
 
 -- a call: what was lent, the answer, and the work area and the file buffer afterwards. Every call keeps the promise: that is `compile`'s contract
 pub record Call : Type 0 where

@@ -4,8 +4,6 @@
 ghost use Rattle.compiler.specs.Answered.{lent};
 ghost use Rattle.compiler.specs.Code.{Coded};
 
-use compiler::Compiled;
-
 // States + 65,536 x blocks, or the refusal's number times 2^32 plus its place.
 #[unsafe(no_mangle)]
 pub extern "C" fn windnadel_compile(
@@ -16,9 +14,8 @@ pub extern "C" fn windnadel_compile(
 ) -> u64
     ensures { Coded (lent source.now room work.old file.old) result work.new file.new }
 {
-    let r = compiler::compile(source, room, work, file);
-    match r {
-        Compiled::Made { states, blocks } => states as u64 + 65536 * blocks as u64,
-        Compiled::Refused { number, place } => number as u64 * 4294967296 + place as u64,
+    match compiler::compile(source, room, work, file) {
+        Ok(made) => u64::from(made.states) + 65536 * u64::from(made.blocks),
+        Err(refusal) => u64::from(refusal),
     }
 }

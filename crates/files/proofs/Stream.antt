@@ -3,7 +3,7 @@
 use mathlib.Core.Path.{◌≡◌, refl, sym, ap, ap₂, ◌∙◌, subst}
 use mathlib.Core.Logic.{◌⊎◌, inl, inr}
 use lib.Pow.{pow_mono}
-use Rattle.rows.proofs.Changes.{lt_or_ge}
+use Rattle.std.proofs.lemmas.Bool.{cases_lt}
 use mathlib.Core.List.{List, [], ◌∷◌, ◌++◌}
 use Prim.Native.Nat.{ℕ, zero, suc, ◌+◌, ◌-◌, ◌*◌, ◌/◌, ◌%◌, ◌^◌, ◌<◌, ◌≤◌}
 use lib.ListN.{length, get_or, set, length-set, get_or-eq_default}
@@ -145,11 +145,11 @@ module _ (l : List ℕ) (k o n : ℕ) where
     pub word-second : (r : ℕ) → n ≡ r → WordIs (stream_from l k o n) 1 r
     word-second r e = word_is 1 r (omega arith) e
 
-    -- word w is behind the end
-    pub word-past : (w : ℕ) → 2 ≤ w → n ≤ (w - 2) / width → WordIs (stream_from l k o n) w 0
-    word-past w h b =
-        let e = div-add-mod' (w - 2) width in
-        let m : n * width ≤ (w - 2) / width * width = mul-le-mul_right width b in
+    -- word v behind the first two is behind the end
+    word-past : (v : ℕ) → n ≤ v / width → WordIs (stream_from l k o n) (v + 2) 0
+    word-past v b =
+        let e = div-add-mod' v width in
+        let m : n * width ≤ v / width * width = mul-le-mul_right width b in
         record {
           low = get_or-eq_default (stream_from l k o n) 0 (omega (arith, stream_length_lem));
           high = get_or-eq_default (stream_from l k o n) 0 (omega (arith, stream_length_lem));
@@ -166,27 +166,27 @@ module _ (l : List ℕ) (k o n : ℕ) where
         rest v = mod-lt v (omega arith)
 
     -- .. or in the row of a state
-    pub word_cell : (w r : ℕ) → 2 ≤ w → (w - 2) / width < n → cell ((w - 2) / width) ((w - 2) % width) ≡ r → WordIs (stream_from l k o n) w r
-    word_cell w r h b e = word_is w r (omega (arith, in_stream (w - 2) b)) (ap word (let z : w ≡ suc (suc (w - 2)) = omega arith in z) ∙ e)
+    word_cell : (v r : ℕ) → v / width < n → cell (v / width) (v % width) ≡ r → WordIs (stream_from l k o n) (v + 2) r
+    word_cell v r b e = word_is (v + 2) r (omega (arith, in_stream v b)) (ap word (let z : v + 2 ≡ suc (suc v) = omega arith in z) ∙ e)
 
     -- ---- the same with 2 ^ k computed
 
-    module _ (inputs : ℕ) (is : inputs ≡ 2 ^ k) (w : ℕ) (h : 2 ≤ w) where
-      pub code_past : n ≤ (w - 2) / (inputs + 1) → WordIs (stream_from l k o n) w 0
-      code_past b = word-past w h (subst (λ (x : ℕ). n ≤ (w - 2) / (x + 1)) is b)
+    module _ (inputs : ℕ) (is : inputs ≡ 2 ^ k) (v : ℕ) where
+      pub code_past : n ≤ v / (inputs + 1) → WordIs (stream_from l k o n) (v + 2) 0
+      code_past b = word-past v (subst (λ (x : ℕ). n ≤ v / (x + 1)) is b)
 
-      pub code_outputs : (r : ℕ) → (w - 2) / (inputs + 1) < n → (w - 2) % (inputs + 1) ≡ 0 → (row_in l ((w - 2) / (inputs + 1))).word % 2 ^ o ≡ r → WordIs (stream_from l k o n) w r
+      pub code_outputs : (r : ℕ) → v / (inputs + 1) < n → v % (inputs + 1) ≡ 0 → (row_in l (v / (inputs + 1))).word % 2 ^ o ≡ r → WordIs (stream_from l k o n) (v + 2) r
       code_outputs r b z e =
-          word_cell w r h (subst (λ (x : ℕ). (w - 2) / (x + 1) < n) is b)
-          (ap (λ (x : ℕ). cell ((w - 2) / (x + 1)) ((w - 2) % (x + 1))) (sym is) ∙ ap (cell ((w - 2) / (inputs + 1))) z ∙ e)
+          word_cell v r (subst (λ (x : ℕ). v / (x + 1) < n) is b)
+          (ap (λ (x : ℕ). cell (v / (x + 1)) (v % (x + 1))) (sym is) ∙ ap (cell (v / (inputs + 1))) z ∙ e)
 
-      pub code_next : (r : ℕ) → (w - 2) / (inputs + 1) < n → ¬ ((w - 2) % (inputs + 1) ≡ 0) → next_in l ((w - 2) / (inputs + 1)) ((w - 2) % (inputs + 1) - 1) ≡ r → WordIs (stream_from l k o n) w r
+      pub code_next : (r : ℕ) → v / (inputs + 1) < n → ¬ (v % (inputs + 1) ≡ 0) → next_in l (v / (inputs + 1)) (v % (inputs + 1) - 1) ≡ r → WordIs (stream_from l k o n) (v + 2) r
       code_next r b z e =
-          word_cell w r h (subst (λ (x : ℕ). (w - 2) / (x + 1) < n) is b)
-          (ap (λ (x : ℕ). cell ((w - 2) / (x + 1)) ((w - 2) % (x + 1))) (sym is) ∙ ap (cell ((w - 2) / (inputs + 1))) one_more ∙ e)
+          word_cell v r (subst (λ (x : ℕ). v / (x + 1) < n) is b)
+          (ap (λ (x : ℕ). cell (v / (x + 1)) (v % (x + 1))) (sym is) ∙ ap (cell (v / (inputs + 1))) one_more ∙ e)
         where
-          one_more : (w - 2) % (inputs + 1) ≡ suc ((w - 2) % (inputs + 1) - 1)
-          one_more = let m : ¬ ((w - 2) % (inputs + 1) ≡ 0) = z in omega arith
+          one_more : v % (inputs + 1) ≡ suc (v % (inputs + 1) - 1)
+          one_more = let m : ¬ (v % (inputs + 1) ≡ 0) = z in omega arith
 
 pub column : (inputs k v : ℕ) → inputs ≡ 2 ^ k → k ≤ 6 → v % (inputs + 1) ≤ 64
 column inputs k v e h = let p : 2 ^ k ≤ 64 = pow_mono {j = 6} h in omega (arith, mod-lt v {m = inputs + 1} (omega arith))
@@ -194,7 +194,7 @@ column inputs k v e h = let p : 2 ^ k ≤ 64 = pow_mono {j = 6} h in omega (arit
 -- two bytes more of a piece
 pub piece_more : (s p : List ℕ) (from e v : ℕ) → length p ≡ 504 → e < 252 → ((j : ℕ) → j < 2 * e → get_or p j 0 ≡ get_or s (2 * from + j) 0) → WordIs s (from + e) v
     → (j : ℕ) → j < 2 * (e + 1) → get_or (set (set p (2 * e) (v % 256)) (2 * e + 1) (v / 256 % 256)) j 0 ≡ get_or s (2 * from + j) 0
-piece_more s p from e v long h old is j b = go (lt_or_ge j (2 * e))
+piece_more s p from e v long h old is j b = go (cases_lt j (2 * e))
   where
     q : List ℕ
     q = set p (2 * e) (v % 256)

@@ -1,12 +1,10 @@
 -- The table that the search's area holds, and what writing its file promises.
 -- Assumes nothing.
-use Rattle.std.specs.Prelude.{◌≡◌, List, ◌++◌, ℕ, ◌+◌, ◌*◌, ◌/◌, ◌%◌, ◌^◌, ◌<◌, ◌≤◌, length, get_or, drop}
+use Rattle.std.specs.Prelude.{◌≡◌, List, ◌++◌, ℕ, ◌+◌, ◌*◌, ◌/◌, ◌%◌, ◌^◌, ◌<◌, ◌≤◌, length, get_or, drop, Option, Some, None}
 use Rattle.file_law.specs.Answer.{listed}
 use Rattle.file_law.specs.Table.{Row, Table, most_inputs, most_outputs, most_states}
 use Rattle.file_law.specs.File.{stream_of}
 use Rattle.rows.specs.Area.{nexts_at, row_in, next_in}
-use Rattle.files.specs.declared.Filed.{Filed}
-use Rattle.files.specs.declared.Filed.TheVariants.{Blocks, Short}
 
 -- the row of state i: its word's low bits, and its next numbers
 abbrev pub row_from : List ℕ → ℕ → ℕ → ℕ → Row
@@ -31,6 +29,6 @@ pub record WordIs (s : List ℕ) (w r : ℕ) : Type 0 where
   pub high : get_or s (2 * w + 1) 0 ≡ r / 256 % 256
 
 -- the file where it fits, with what the buffer has behind it; else nothing
-abbrev pub Wrote : List ℕ → List ℕ → Filed → List ℕ → Type 0
-Wrote before file (Blocks n) after = (length file ≤ length before) × (after ≡ file ++ drop (length file) before) × (length file ≡ 512 * n)
-Wrote before file Short after = (length before < length file) × (after ≡ before)
+abbrev pub Wrote : List ℕ → List ℕ → Option ℕ → List ℕ → Type 0
+Wrote before file (Some n) after = (length file ≤ length before) × (after ≡ file ++ drop (length file) before) × (length file ≡ 512 * n)
+Wrote before file None after = (length before < length file) × (after ≡ before)

@@ -1,124 +1,84 @@
 // The table file of what the search found, block by block into the lent buffer.
 #![tactic(auto)]
 
-ghost use Rattle.std.specs.Prelude.{◌≡◌, ℕ, ◌+◌, ◌*◌, ◌/◌, ◌%◌, ◌^◌, ◌≤◌, ◌<◌, length, get_or, drop};
-ghost use Rattle.file_law.specs.File.{block_count, file_of, with_block};
-ghost use Rattle.file_law.specs.Table.{most_outputs, most_states};
+ghost use Rattle.std.specs.Prelude.{◌≡◌, ℕ, ◌+◌, ◌*◌, ◌%◌, ◌^◌, ◌<◌, length, get_or, drop};
+ghost use Rattle.file_law.specs.File.{file_of, with_block};
 ghost use Rattle.rows.specs.Area.{row_in};
-ghost use Rattle.files.specs.Written.{table_from, stream_from, Small, WordIs, Wrote};
+ghost use Rattle.files.specs.Written.{stream_from, Small, WordIs, Wrote};
 
-pub fn pow2(k: u32) -> usize
-    requires { k ≤ most_outputs }
-    ensures { (result ≡ 2 ^ k) × (result ≤ 65536) }
-{
-    1 << k
-}
+use stream::sizes::{Sizes, blocks_for, pow2};
 
 // The outputs of state i.
-fn outputs_at(area: &[u8], o: u32, outs: usize, i: usize, k: u32, n: u32) -> u16
-    requires { Small area.now k o n × (i < n) × (outs ≡ 2 ^ o) }
-    ensures { result ≡ (row_in area.now i).word % 2 ^ o }
+fn outputs_at(area: &[u8], sizes: Sizes, i: usize) -> u16
+    requires { Small area.now sizes.inputs sizes.outputs sizes.states × (i < sizes.states) }
+    ensures { result ≡ (row_in area.now i).word % 2 ^ sizes.outputs }
 {
-    let word = rows::row::word(area, i) as usize;
-    (word % outs) as u16
+    (rows::row::word(area, i) % pow2(sizes.outputs)) as u16
 }
 
-// Word w of the stream, and 0 behind its end.
-fn word_at(area: &[u8], k: u32, o: u32, n: u32, inputs: usize, outs: usize, w: usize) -> u16
-    requires { Small area.now k o n × (inputs ≡ 2 ^ k) × (outs ≡ 2 ^ o) × (w < 131072) }
-    ensures { WordIs (stream_from area.now k o n) w result }
+// Word v behind the first two: the outputs or a next number of a state, and 0 behind the last one's.
+fn cell_at(area: &[u8], sizes: Sizes, v: u32) -> u16
+    requires { Small area.now sizes.inputs sizes.outputs sizes.states × (v < 131072) }
+    ensures { WordIs (stream_from area.now sizes.inputs sizes.outputs sizes.states) (v + 2) result }
 {
-    if w == 0 {
-        return (k + 256 * o) as u16;
-    }
-    if w == 1 {
-        return n as u16;
-    }
-    let width = (inputs + 1) as u32;
-    let v = (w - 2) as u32;
+    let width = pow2(sizes.inputs) + 1;
     let i = (v / width) as usize;
-    if n as usize <= i {
+    if sizes.states as usize <= i {
         return 0;
     }
     let c = (v % width) as usize;
     if c == 0 {
-        return outputs_at(area, o, outs, i, k, n);
+        return outputs_at(area, sizes, i);
     }
     rows::next::read(area, i, c - 1) as u16
 }
 
-// The 504 bytes of the stream from word `from` on.
-fn fill_piece(
-    area: &[u8],
-    piece: &mut [u8],
-    k: u32,
-    o: u32,
-    n: u32,
-    inputs: usize,
-    outs: usize,
-    from: usize,
-)
-    requires { Small area.now k o n × (inputs ≡ 2 ^ k) × (outs ≡ 2 ^ o) × (length piece.old ≡ 504) × (from < 65536) }
-    ensures { (length piece.new ≡ 504) × ((j : ℕ) → j < 504 → get_or piece.new j 0 ≡ get_or (stream_from area.now k o n) (2 * from + j) 0) }
+// Word w of the stream, and 0 behind its end.
+fn word_at(area: &[u8], sizes: Sizes, w: u32) -> u16
+    requires { Small area.now sizes.inputs sizes.outputs sizes.states × (w < 131072) }
+    ensures { WordIs (stream_from area.now sizes.inputs sizes.outputs sizes.states) w result }
 {
-    let mut e: usize = 0;
-    while e < 252 {
-        let v = word_at(area, k, o, n, inputs, outs, from + e);
-        piece[2 * e] = (v % 256) as u8;
-        piece[2 * e + 1] = (v / 256 % 256) as u8;
-        e += 1;
+    match w {
+        0 => (sizes.inputs + 256 * sizes.outputs) as u16,
+        1 => sizes.states as u16,
+        _ => cell_at(area, sizes, w - 2),
+    }
+}
+
+// The 504 bytes of the stream from word `from` on.
+fn fill_piece(area: &[u8], piece: &mut [u8], sizes: Sizes, from: u32)
+    requires { Small area.now sizes.inputs sizes.outputs sizes.states × (length piece.old ≡ 504) × (from < 65536) }
+    ensures { (length piece.new ≡ 504) × ((j : ℕ) → j < 504 → get_or piece.new j 0 ≡ get_or (stream_from area.now sizes.inputs sizes.outputs sizes.states) (2 * from + j) 0) }
+{
+    for e in 0..252 {
+        let v = word_at(area, sizes, from + e as u32);
+        let [low, high] = v.to_le_bytes();
+        piece[2 * e] = low;
+        piece[2 * e + 1] = high;
     }
 }
 
 // Block b of the file.
-fn put_block(
-    area: &[u8],
-    file: &mut [u8],
-    k: u32,
-    o: u32,
-    n: u32,
-    inputs: usize,
-    outs: usize,
-    b: usize,
-    total: usize,
-)
-    requires { Small area.now k o n × (inputs ≡ 2 ^ k) × (outs ≡ 2 ^ o) × (b < 256) × (total < 256) }
-    ensures { file.new ≡ with_block file.old b total (drop (504 * b) (stream_from area.now k o n)) }
+fn put_block(area: &[u8], file: &mut [u8], sizes: Sizes, b: u16, total: u16)
+    requires { Small area.now sizes.inputs sizes.outputs sizes.states × (b < 256) × (total < 256) }
+    ensures { file.new ≡ with_block file.old b total (drop (504 * b) (stream_from area.now sizes.inputs sizes.outputs sizes.states)) }
 {
     let mut piece = [0u8; 504];
-    fill_piece(area, &mut piece, k, o, n, inputs, outs, 252 * b);
-    writer::write_block(file, b as u16, total as u16, &piece);
+    fill_piece(area, &mut piece, sizes, 252 * u32::from(b));
+    writer::write_block(file, b, total, &piece);
 }
 
-// The blocks of a file with n states and so many inputs.
-fn block_count(n: u32, inputs: usize) -> usize
-    requires { (n ≤ most_states) × (inputs ≤ 64) }
-    ensures { (result ≡ block_count ((2 + n * (inputs + 1)) * 2)) × (result < 256) }
+// The blocks of the file of these sizes, or none where the buffer is too short for it.
+pub fn write_file(area: &[u8], sizes: Sizes, file: &mut [u8]) -> Option<u16>
+    requires { Small area.now sizes.inputs sizes.outputs sizes.states }
+    ensures { Wrote file.old (file_of (stream_from area.now sizes.inputs sizes.outputs sizes.states)) result file.new }
 {
-    ((2 + n as usize * (inputs + 1)) * 2 + 503) / 504
-}
-
-#[derive(Clone, Copy)]
-pub enum Filed {
-    Blocks(u16),
-    Short,
-}
-
-// The file of n states, k inputs and o outputs, or that the buffer is too short for it.
-pub fn write_file(area: &[u8], k: u32, o: u32, n: u32, file: &mut [u8]) -> Filed
-    requires { Small area.now k o n }
-    ensures { Wrote file.old (file_of (stream_from area.now k o n)) result file.new }
-{
-    let inputs = pow2(k);
-    let outs = pow2(o);
-    let total = block_count(n, inputs);
-    if file.len() < 512 * total {
-        return Filed::Short;
+    let total = blocks_for(sizes.inputs, sizes.states) as u16;
+    if file.len() < 512 * usize::from(total) {
+        return None;
     }
-    let mut b: usize = 0;
-    while b < total {
-        put_block(area, file, k, o, n, inputs, outs, b, total);
-        b += 1;
+    for b in 0..total {
+        put_block(area, file, sizes, b, total);
     }
-    Filed::Blocks(total as u16)
+    Some(total)
 }

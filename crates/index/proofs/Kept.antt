@@ -1,9 +1,10 @@
 -- The index where bytes change behind it, and where it is emptied.
 -- Assumes nothing.
 use mathlib.Core.Path.{◌≡◌, sym, ap, ◌∙◌}
-use mathlib.Core.List.{List}
+use mathlib.Core.List.{List, ◌++◌}
 use Prim.Native.Nat.{ℕ, ◌+◌, ◌*◌, ◌<◌, ◌≤◌}
-use lib.ListN.{length, get_or}
+use lib.ListN.{length, get_or, take, drop, replicate, length-append, length-drop, length-replicate, get_or-append, get_or-replicate}
+use lib.Seq.{length-take-le}
 use native.Mathlib.Omega.{arith}
 use Rattle.file_law.specs.Bytes.{word2}
 use Rattle.rows.specs.Area.{slots, nexts_at, slot_in, hash_of, Changed}
@@ -38,15 +39,29 @@ slot_zero : (l : List ℕ) (j : ℕ) → get_or l (2 * j) 0 ≡ 0 → get_or l (
 unfolding slot_in word2
 slot_zero l j p q = rw (p, q)
 
-pub no_index : (l : List ℕ) → nexts_at ≤ length l → ((e : ℕ) → e < 2560 → get_or l e 0 ≡ 0) → Indexed l 0
-no_index l h zero =
-    record {
-      long = h;
-      few = omega arith;
-      clear = λ j k b. empty j b;
-      sound = λ j b. omega (arith, empty j b);
-      whole = λ i k. absurd (omega arith);
-    }
+-- the first 2,560 bytes are z now
+pub no_index : (l z : List ℕ) → nexts_at ≤ length l → z ≡ replicate (length (take 2560 l)) 0 → Indexed (z ++ drop 2560 l) 0 × (length (z ++ drop 2560 l) ≡ length l)
+no_index l z h e = (
+  record {
+    long = omega (arith, same);
+    few = omega arith;
+    clear = λ j k b. empty j b;
+    sound = λ j b. omega (arith, empty j b);
+    whole = λ i k. absurd (omega arith);
+  },
+  same,
+)
   where
-    empty : (j : ℕ) → j < slots → slot_in l j ≡ 0
-    empty j b = slot_zero l j (zero (2 * j) (omega arith)) (zero (2 * j + 1) (omega arith))
+    long : length z ≡ 2560
+    long = ap length e ∙ length-replicate (length (take 2560 l)) 0 ∙ length-take-le 2560 l (omega arith)
+
+    same : length (z ++ drop 2560 l) ≡ length l
+    same = simp (length-append, length-drop) (omega (arith, long))
+
+    zero : (i : ℕ) → i < 2560 → get_or (z ++ drop 2560 l) i 0 ≡ 0
+    zero i b =
+        get_or-append z (drop 2560 l) 0 i (omega (arith, long)) ∙ ap (λ (x : List ℕ). get_or x i 0) e
+        ∙ get_or-replicate (length (take 2560 l)) i 0 0 (omega (arith, length-take-le 2560 l (omega arith)))
+
+    empty : (j : ℕ) → j < slots → slot_in (z ++ drop 2560 l) j ≡ 0
+    empty j b = slot_zero (z ++ drop 2560 l) j (zero (2 * j) (omega arith)) (zero (2 * j + 1) (omega arith))

@@ -10,7 +10,9 @@ use Rattle.file_law.specs.Bytes.{word2, bytes_of}
 use Rattle.clock.specs.declared.State.{State}
 use Rattle.rows.specs.Area.{homes, slots, most_rows, slot_in, row_at, row_in, next_at, next_in, hash_of, Changed}
 use Rattle.index.specs.Indexed.{Stands, Indexed, Free, Added}
-use Rattle.rows.proofs.Changes.{one_below, lt_or_ge, word2-before, word2-behind}
+use Rattle.std.proofs.lemmas.Bool.{cases_lt}
+use borrow.Author.Count.{below_more}
+use Rattle.rows.proofs.Changes.{word2-before, word2-behind}
 use Rattle.rows.proofs.Rows.{row_before, row-behind}
 
 -- ---- a walk
@@ -31,7 +33,7 @@ walk_start s e b w =
 module _ {l : List ℕ} {n : ℕ} {s : State} {j v : ℕ} (x : Indexed l n) (w : Walked l n s j v) where
   -- at a filled slot: there is one more
   pub not_last : ¬ (v ≡ 0) → j + 1 < homes + n
-  not_last h = go (lt_or_ge (j + 1) (homes + n))
+  not_last h = go (cases_lt (j + 1) (homes + n))
     where
       go : (j + 1 < homes + n) ⊎ (homes + n ≤ j + 1) → j + 1 < homes + n
       go (inl k) = k
@@ -68,7 +70,7 @@ module _ {l : List ℕ} {n : ℕ} {s : State} {j v : ℕ} (x : Indexed l n) (w :
       record { absent = absent; from = w.from; below = w.below; free = sym w.here ∙ z; filled = w.filled }
     where
       absent : (i : ℕ) → i < n → ¬ (row_in l i ≡ s)
-      absent i h e = go (lt_or_ge t.at j)
+      absent i h e = go (cases_lt t.at j)
         where
           t : Stands l (hash_of (row_in l i)) i
           t = x.whole i h
@@ -109,7 +111,7 @@ module _ {l k m : List ℕ} {n j : ℕ} {s : State} (x : Indexed l n) (few : n <
     is_other : ¬ (e ≡ j) → slot_in m e ≡ slot_in l e → Place e
 
   place : (e : ℕ) → e < slots → Place e
-  place e b = go (lt_or_ge e j)
+  place e b = go (cases_lt e j)
     where
       on : (j ≡ e) ⊎ (j < e) → Place e
       on (inl q) = is_here (sym q)
@@ -183,7 +185,7 @@ module _ {l k m : List ℕ} {n j : ℕ} {s : State} (x : Indexed l n) (few : n <
               few = omega arith;
               clear = clear;
               sound = sound;
-              whole = one_below (λ (i : ℕ). Stands m (hash_of (row_in m i)) i) n old-stands new-stands;
+              whole = below_more (λ (i : ℕ). Stands m (hash_of (row_in m i)) i) n old-stands new-stands;
             };
         long = d.long ∙ c.long;
         new = row;

@@ -1,10 +1,8 @@
 -- The index: each state is found from its hash on, and the walk to it meets no empty slot.
 -- Assumes nothing.
-use Rattle.std.specs.Prelude.{◌≡◌, List, ℕ, ◌+◌, ◌<◌, ◌≤◌, length}
+use Rattle.std.specs.Prelude.{◌≡◌, List, ℕ, ◌+◌, ◌<◌, ◌≤◌, length, Result, Ok, Err}
 use Rattle.rows.specs.Area.{homes, slots, most_rows, nexts_at, slot_in, row_in, next_in, hash_of}
 use Rattle.clock.specs.declared.State.{State}
-use Rattle.index.specs.declared.Look.{Look}
-use Rattle.index.specs.declared.Look.TheVariants.{Known, New}
 
 -- state i stands in a slot from h on, with no empty slot between
 pub record Stands (l : List ℕ) (h i : ℕ) : Type 0 where
@@ -32,9 +30,9 @@ pub record Free (l : List ℕ) (n : ℕ) (s : State) (j : ℕ) : Type 0 where
   pub filled : (e : ℕ) → hash_of s ≤ e → e < j → ¬ (slot_in l e ≡ 0)
 
 -- "found exactly if present"
-abbrev pub Looked : List ℕ → ℕ → State → Look → Type 0
-Looked l n s (Known i) = (i < n) × (row_in l i ≡ s)
-Looked l n s (New j) = Free l n s j
+abbrev pub Looked : List ℕ → ℕ → State → Result ℕ ℕ → Type 0
+Looked l n s (Ok i) = (i < n) × (row_in l i ≡ s)
+Looked l n s (Err j) = Free l n s j
 
 -- s is row n now, the rows before it and the next numbers are as they were
 pub record Added (l : List ℕ) (n : ℕ) (s : State) (k : List ℕ) : Type 0 where

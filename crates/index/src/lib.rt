@@ -8,13 +8,6 @@ ghost use Rattle.index.specs.Indexed.{Indexed, Free, Looked, Added};
 use clock::State;
 use rows::{bytes, row};
 
-// A state's number, or the slot for it.
-#[derive(Clone, Copy)]
-pub enum Look {
-    Known(usize),
-    New(usize),
-}
-
 const INDEX: usize = 2560;
 
 // A number times a factor, in 64 bits.
@@ -22,42 +15,40 @@ fn scaled(x: u16, by: u64) -> u64
     requires { by < 65536 }
     ensures { (result ≡ x * by) × (result < 4294967296) }
 {
-    x as u64 * by
+    u64::from(x) * by
 }
 
 pub fn hash(s: State) -> usize
     ensures { (result ≡ hash_of s) × (result < homes) }
 {
-    let all = s.entries;
-    let a = all[0];
-    let b = all[1];
-    let c = all[2];
-    let d = all[3];
-    let mixed = s.word as u64 * 40503
+    let [a, b, c, d, ..] = s.entries;
+    let mixed = u64::from(s.word) * 40503
         + scaled(a.place, 30011)
         + scaled(b.place, 25717)
         + scaled(c.place, 52711)
         + scaled(d.place, 17389)
-        + scaled(bytes::wide2(a.left), 60493)
-        + scaled(bytes::wide2(b.left), 35969);
+        + scaled(u16::from(a.left), 60493)
+        + scaled(u16::from(b.left), 35969);
     (mixed / 64 % 1024) as usize
 }
 
-pub fn find(area: &[u8], n: usize, s: State) -> Look
+// The state's number, or as an error the slot that is free for it.
+pub fn find(area: &[u8], n: usize, s: State) -> Result<usize, usize>
     requires { Indexed area.now n × (length s.entries ≡ 8) }
     ensures { Looked area.now n s result }
 {
+    // A walk up to the first empty slot: a `for` over the slots would need an answer for a walk that meets none.
     let mut j = hash(s);
     let mut v = bytes::half_at(area, 2 * j);
     while v != 0 {
-        let i = v as usize - 1;
+        let i = usize::from(v) - 1;
         if row::same(area, i, s) {
-            return Look::Known(i);
+            return Ok(i);
         }
         j += 1;
         v = bytes::half_at(area, 2 * j);
     }
-    Look::New(j)
+    Err(j)
 }
 
 // State n, with its slot.
@@ -74,9 +65,5 @@ pub fn clear(area: &mut [u8])
     requires { nexts_at ≤ length area.old }
     ensures { Indexed area.new 0 × (length area.new ≡ length area.old) }
 {
-    let mut j: usize = 0;
-    while j < INDEX {
-        area[j] = 0;
-        j += 1;
-    }
+    area[..INDEX].fill(0);
 }

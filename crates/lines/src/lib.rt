@@ -3,22 +3,18 @@
 
 use std::io;
 use std::io::Print;
+use words::kinds;
 
 mod names;
 mod rows;
-mod show;
-
-pub use show::refusal;
 
 pub fn listing(to: &impl Print, source: &[u8], file: &[u8], states: u32) -> io::Result<()> {
-    show::text(to, b"machine")?;
+    print!(to; "machine")?;
     names::own(to, source)?;
-    show::text(to, b"\ninputs")?;
-    names::declared(to, source, words::kinds::INPUT)?;
-    show::text(to, b"\noutputs")?;
-    names::declared(to, source, words::kinds::OUTPUT)?;
-    show::text(to, b"\nstates ")?;
-    show::number(to, states)?;
-    show::text(to, b"\n")?;
+    print!(to; "\ninputs")?;
+    names::declared(to, source, kinds::INPUT)?;
+    print!(to; "\noutputs")?;
+    names::declared(to, source, kinds::OUTPUT)?;
+    println!(to; "\nstates {states}")?;
     rows::all(to, file)
 }

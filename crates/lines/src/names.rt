@@ -1,109 +1,85 @@
 // The names that a program's heading has, each behind a blank.
-ghost use Rattle.std.specs.Prelude.{◌≤◌, ◌<◌, length};
+ghost use Rattle.std.specs.Prelude.{◌≤◌, ◌<◌, length, IfSome};
 
-use crate::show;
 use std::io;
 use std::io::Print;
 use words::{Next, Word, kinds};
 
-// No word.
-const NONE: u8 = 255;
-
-// The next word from a place on, or none at the text's end.
-fn word_from(source: &[u8], from: usize) -> Word
-    ensures { (result.start ≤ result.end) × (result.end ≤ length source.now) × (from < length source.now → from < result.end) }
+// The next word from a place on.
+fn word_from(source: &[u8], from: usize) -> Option<Word>
+    ensures { IfSome result (λ w. (w.start ≤ w.end) × (w.end ≤ length source.now) × (from < w.end)) }
 {
-    let next = words::next_word(source, from);
-    match next {
-        Next::Found(w) => w,
-        Next::Stops(_) => none(source),
-        Next::Over => none(source),
+    match words::next_word(source, from) {
+        Next::Found(w) => Some(w),
+        Next::Stops(_) | Next::Over => None,
     }
 }
 
-fn none(source: &[u8]) -> Word
-    ensures { (result.start ≤ result.end) × (result.end ≤ length source.now) × (length source.now ≤ result.end) }
-{
-    Word {
-        kind: NONE,
-        start: source.len(),
-        end: source.len(),
-        value: 0,
+// Where that word ends, or the text where there is none.
+fn end_of(source: &[u8], from: usize) -> usize {
+    match word_from(source, from) {
+        Some(w) => w.end,
+        None => source.len(),
     }
 }
 
-fn word(to: &impl Print, source: &[u8], start: usize, end: usize) -> io::Result<()>
+fn name(to: &impl Print, source: &[u8], start: usize, end: usize) -> io::Result<()>
     requires { (start ≤ end) × (end ≤ length source.now) }
 {
-    show::text(to, b" ")?;
-    show::text(to, &source[start..end])
+    print!(to; " ")?;
+    to.write_all(&source[start..end])
 }
 
 // The program's own: its second word.
 pub fn own(to: &impl Print, source: &[u8]) -> io::Result<()> {
-    let first = word_from(source, 0);
-    let name = word_from(source, first.end);
-    word(to, source, name.start, name.end)
+    match word_from(source, end_of(source, 0)) {
+        Some(w) => name(to, source, w.start, w.end),
+        None => print!(to; " "),
+    }
 }
 
 // The place behind `program NAME ;`.
 fn heading_end(source: &[u8]) -> usize {
-    let first = word_from(source, 0);
-    let name = word_from(source, first.end);
-    let semicolon = word_from(source, name.end);
-    semicolon.end
+    let mut end = 0;
+    for _ in 0..3 {
+        end = end_of(source, end);
+    }
+    end
 }
 
 fn declares(kind: u8) -> bool {
-    if kind == kinds::PROCEDURE {
-        return true;
-    }
-    if kind < kinds::INPUT {
-        return false;
-    }
-    kind <= kinds::INTEGER
+    matches!(kind, kinds::PROCEDURE | kinds::INPUT..=kinds::INTEGER)
 }
 
 // The word that ends such a declaration.
 fn last_of(kind: u8) -> u8 {
-    if kind == kinds::PROCEDURE {
-        return kinds::ENDPROC;
+    match kind {
+        kinds::PROCEDURE => kinds::ENDPROC,
+        _ => kinds::SEMICOLON,
     }
-    kinds::SEMICOLON
 }
 
 // Those that the declarations of that kind declare, or `-`. A declaration is open from its keyword up to its last word; behind a procedure a semicolon may stand.
 pub fn declared(to: &impl Print, source: &[u8], kind: u8) -> io::Result<()> {
     let mut at = heading_end(source);
-    let mut open = kinds::SEMICOLON;
+    let mut open = None;
     let mut some = false;
-    while at < source.len() {
-        let w = word_from(source, at);
+    while let Some(w) = word_from(source, at) {
         at = w.end;
-        if open == kinds::SEMICOLON {
-            if declares(w.kind) {
-                open = w.kind;
-                continue;
+        match open {
+            None if declares(w.kind) => open = Some(w.kind),
+            None if w.kind == kinds::SEMICOLON => {}
+            None => break,
+            Some(o) if w.kind == last_of(o) => open = None,
+            Some(o) if o == kind && w.kind == kinds::NAME => {
+                name(to, source, w.start, w.end)?;
+                some = true;
             }
-            if w.kind == kinds::SEMICOLON {
-                continue;
-            }
-            break;
-        }
-        if w.kind == last_of(open) {
-            open = kinds::SEMICOLON;
-            continue;
-        }
-        if open != kind {
-            continue;
-        }
-        if w.kind == kinds::NAME {
-            word(to, source, w.start, w.end)?;
-            some = true;
+            Some(_) => {}
         }
     }
     if some {
         return Ok(());
     }
-    show::text(to, b" -")
+    print!(to; " -")
 }

@@ -6,13 +6,14 @@ use Prim.Native.Nat.{ℕ, ◌+◌, ◌*◌, ◌<◌, ◌≤◌}
 use lib.ListN.{length, get_or, set}
 use lib.Seq.{ext_get_or, get_or-set_same, get_or-set_other}
 use native.Mathlib.Omega.{arith}
+use borrow.Author.Count.{below_more}
 use Rattle.file_law.specs.Bytes.{word2, word4, bytes_of}
 use Rattle.file_law.proofs.Every.{length-listed, get_or-listed}
 use Rattle.runs.specs.Run.{empty}
 use Rattle.runs.specs.declared.Entry.{Entry}
 use Rattle.clock.specs.declared.State.{State}
 use Rattle.rows.specs.Area.{row_at, entry_in, row_in, Changed}
-use Rattle.rows.proofs.Changes.{one_below, changed-none, changed_then, changed-set, word2-before, word2-behind, word4-before, word4-behind}
+use Rattle.rows.proofs.Changes.{changed_then, changed-set, word2-before, word2-behind, word4-before, word4-behind}
 
 same_entry_lem : {p q a b : ℕ} → p ≡ q → a ≡ b → ◌≡◌ {A = Entry} (record { place = p; left = a }) (record { place = q; left = b })
 same_entry_lem e f = λ i. record { place = e i; left = f i }
@@ -21,13 +22,10 @@ same_entry_lem e f = λ i. record { place = e i; left = f i }
 pub record Begun (l : List ℕ) (at : ℕ) (es : List Entry) (e : ℕ) : Type 0 where
   pub entry : (j : ℕ) → j < e → entry_in l at j ≡ get_or es j empty
 
-pub begun-none : (l : List ℕ) (at : ℕ) (es : List Entry) → Begun l at es 0
-begun-none l at es = record { entry = λ j h. absurd (omega arith) }
-
 pub begun_more : {l : List ℕ} {at : ℕ} {es : List Entry} {e : ℕ} → Begun l at es e
     → word2 (bytes_of l) (at + 2 * e) ≡ (get_or es e empty).place → get_or l (at + 16 + e) 0 ≡ (get_or es e empty).left → Begun l at es (e + 1)
 begun_more {l} {at} {es} {e} b p q =
-    record { entry = one_below (λ (j : ℕ). entry_in l at j ≡ get_or es j empty) e b.entry (same_entry_lem p q) }
+    record { entry = below_more (λ (j : ℕ). entry_in l at j ≡ get_or es j empty) e b.entry (same_entry_lem p q) }
 
 module _ (l : List ℕ) (i : ℕ) where
   entry_at : (e : ℕ) → e < 8 → get_or (row_in l i).entries e empty ≡ entry_in l (row_at i) e
@@ -43,13 +41,13 @@ module _ (l : List ℕ) (i : ℕ) where
   row_word = refl
 
   -- all alike
-  pub row_is : (s : State) → length s.entries ≡ 8 → Begun l (row_at i) s.entries 8 → word4 (bytes_of l) (row_at i + 24) ≡ s.word → row_in l i ≡ s
-  row_is s eight b w = λ j. record { entries = es j; word = (row_word ∙ w) j }
+  pub row_is : (s : State) (n : ℕ) → 8 ≤ n → length s.entries ≡ 8 → Begun l (row_at i) s.entries n → word4 (bytes_of l) (row_at i + 24) ≡ s.word → row_in l i ≡ s
+  row_is s n all eight b w = λ j. record { entries = es j; word = (row_word ∙ w) j }
     where
       es : (row_in l i).entries ≡ s.entries
       es =
           ext_get_or empty (row_in l i).entries s.entries (row-eight ∙ sym eight)
-          (λ e h. let k : e < 8 = omega (arith, row-eight) in entry_at e k ∙ b.entry e k)
+          (λ e h. let k : e < 8 = omega (arith, row-eight) in entry_at e k ∙ b.entry e (omega arith))
 
   -- one that differs
   pub word_differs : (s : State) → ¬ (word4 (bytes_of l) (row_at i + 24) ≡ s.word) → ¬ (row_in l i ≡ s)
@@ -67,7 +65,7 @@ module _ (l : List ℕ) (i : ℕ) where
 -- what stays
 alike : (l k : List ℕ) (i : ℕ) → ((e : ℕ) → e < 8 → entry_in k (row_at i) e ≡ entry_in l (row_at i) e)
     → word4 (bytes_of k) (row_at i + 24) ≡ word4 (bytes_of l) (row_at i + 24) → row_in k i ≡ row_in l i
-alike l k i p w = row_is k i (row_in l i) (row-eight l i) (record { entry = λ e h. p e h ∙ sym (entry_at l i e h) }) (w ∙ sym (row_word l i))
+alike l k i p w = row_is k i (row_in l i) 8 (omega arith) (row-eight l i) (record { entry = λ e h. p e h ∙ sym (entry_at l i e h) }) (w ∙ sym (row_word l i))
 
 module _ {from to : ℕ} {l k : List ℕ} (c : Changed from to l k) (i : ℕ) where
   pub row_before : row_at (i + 1) ≤ from → row_in k i ≡ row_in l i
@@ -87,7 +85,7 @@ pub reading-more : {l : List ℕ} {at : ℕ} {es : List Entry} {e p q : ℕ} →
 reading-more {l} {at} {es} {e} {p} {q} b h eight x y =
     record {
       entry =
-          one_below (λ (j : ℕ). entry_in l at j ≡ get_or (set es e (record { place = p; left = q })) j empty) e
+          below_more (λ (j : ℕ). entry_in l at j ≡ get_or (set es e (record { place = p; left = q })) j empty) e
           (λ j k. b.entry j k ∙ sym (get_or-set_other es e j (record { place = p; left = q }) empty (λ z. omega arith)))
           (same_entry_lem (sym x) (sym y) ∙ sym (get_or-set_same es e (record { place = p; left = q }) empty (omega arith)));
     }
@@ -98,9 +96,6 @@ pub record Storing (l₀ : List ℕ) (at : ℕ) (es : List Entry) (l : List ℕ)
   pub on : e ≤ 8
   pub changed : Changed at (at + 24) l₀ l
   pub begun : Begun l at es e
-
-pub storing_none : (l : List ℕ) (at : ℕ) (es : List Entry) → Storing l at es l 0
-storing_none l at es = record { on = omega arith; changed = changed-none at (at + 24) l; begun = begun-none l at es }
 
 pub storing_more : {l₀ : List ℕ} {at : ℕ} {es : List Entry} {l k : List ℕ} {e : ℕ} → Storing l₀ at es l e → e < 8 → at + 28 ≤ length l₀
     → Changed (at + 2 * e) (at + 2 * e + 2) l k → word2 (bytes_of k) (at + 2 * e) ≡ (get_or es e empty).place
@@ -128,13 +123,13 @@ storing_more {l₀} {at} {es} {l} {k} {e} v h room c w =
     d : Changed (at + 16 + e) (at + 16 + e + 1) k (set k (at + 16 + e) (get_or es e empty).left)
     d = changed-set k (at + 16 + e) (get_or es e empty).left
 
-pub stored : {l₀ : List ℕ} (i : ℕ) {l k : List ℕ} (s : State) → length s.entries ≡ 8 → Storing l₀ (row_at i) s.entries l 8
+pub stored : {l₀ : List ℕ} (i : ℕ) {l k : List ℕ} (s : State) {n : ℕ} → length s.entries ≡ 8 → 8 ≤ n → Storing l₀ (row_at i) s.entries l n
     → Changed (row_at i + 24) (row_at i + 24 + 4) l k → word4 (bytes_of k) (row_at i + 24) ≡ s.word → Changed (row_at i) (row_at (i + 1)) l₀ k × (row_in k i ≡ s)
-stored {l₀} i {l} {k} s eight v c w = (
+stored {l₀} i {l} {k} s {n} eight all v c w = (
   changed_then (row_at i) (row_at (i + 1)) v.changed c (omega arith) (omega arith) (omega arith) (omega arith),
-  row_is k i s eight
+  row_is k i s n all eight
       (record {
-        entry = λ j b. same_entry_lem (word2-before c (row_at i + 2 * j) (omega arith)) (c.before (row_at i + 16 + j) (omega arith)) ∙ v.begun.entry j b;
+        entry = λ j b. let h : j < 8 = omega (arith, v.on) in same_entry_lem (word2-before c (row_at i + 2 * j) (omega arith)) (c.before (row_at i + 16 + j) (omega arith)) ∙ v.begun.entry j b;
       })
       w,
 )

@@ -11,9 +11,10 @@ pub fn read(area: &[u8], i: usize, x: usize) -> usize
     ensures { (result ≡ next_in area.now i x) × (result < most_rows) }
 {
     let at = NEXTS_AT + 64 * i + x;
-    area[at] as usize
+    usize::from(area[at])
 }
 
+// A byte holds v, which is below 256: `as`, since u8 has no From of a usize and TryFrom would add a case that never comes.
 pub fn put(area: &mut [u8], i: usize, x: usize, v: usize)
     requires { (next_at i x < length area.old) × (x < 64) × (v < most_rows) }
     ensures { NextPut area.old i x v area.new }

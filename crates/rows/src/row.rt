@@ -19,26 +19,12 @@ pub fn same(area: &[u8], i: usize, s: State) -> bool
     if bytes::full_at(area, at + 24) != s.word {
         return false;
     }
-    let entries = s.entries;
-    let mut e: usize = 0;
-    while e < 8 {
-        let x = entries[e];
-        if bytes::half_at(area, at + 2 * e) != x.place {
+    for (e, x) in s.entries.iter().enumerate() {
+        if bytes::half_at(area, at + 2 * e) != x.place || area[at + 16 + e] != x.left {
             return false;
         }
-        if area[at + 16 + e] != x.left {
-            return false;
-        }
-        e += 1;
     }
     true
-}
-
-fn no_entries() -> [Entry; 8]
-    ensures { length result ≡ 8 }
-{
-    let x = Entry { place: 0, left: 0 };
-    [x; 8]
 }
 
 pub fn read(area: &[u8], i: usize) -> State
@@ -46,17 +32,15 @@ pub fn read(area: &[u8], i: usize) -> State
     ensures { result ≡ row_in area.now i }
 {
     let at = ROWS_AT + ROW * i;
-    let mut entries = no_entries();
-    let mut e: usize = 0;
-    while e < 8 {
+    let mut entries = [Entry { place: 0, left: 0 }; 8];
+    for e in 0..8 {
         entries[e] = Entry {
             place: bytes::half_at(area, at + 2 * e),
             left: area[at + 16 + e],
         };
-        e += 1;
     }
     State {
-        entries: entries,
+        entries,
         word: bytes::full_at(area, at + 24),
     }
 }
@@ -74,13 +58,9 @@ pub fn put(area: &mut [u8], i: usize, s: State)
     ensures { Changed (row_at i) (row_at (i + 1)) area.old area.new × (row_in area.new i ≡ s) }
 {
     let at = ROWS_AT + ROW * i;
-    let entries = s.entries;
-    let mut e: usize = 0;
-    while e < 8 {
-        let x = entries[e];
+    for (e, x) in s.entries.iter().enumerate() {
         bytes::put_half(area, at + 2 * e, x.place);
         area[at + 16 + e] = x.left;
-        e += 1;
     }
     bytes::put_full(area, at + 24, s.word);
 }

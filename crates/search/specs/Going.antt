@@ -1,6 +1,6 @@
 -- What holds while the states are searched, and what the search promises.
 -- Assumes nothing.
-use Rattle.std.specs.Prelude.{◌≡◌, List, ℕ, ◌+◌, ◌*◌, ◌<◌, ◌≤◌, length}
+use Rattle.std.specs.Prelude.{◌≡◌, List, ℕ, ◌+◌, ◌*◌, ◌<◌, ◌≤◌, length, Option, Some, None}
 use Rattle.file_law.specs.Answer.{listed}
 use Rattle.reach_law.specs.Machine.{Machine}
 use Rattle.reach_law.specs.Count.{TooMany}
@@ -11,8 +11,6 @@ use Rattle.clock.specs.Step.{state_from, Canon}
 use Rattle.clock.specs.declared.State as code
 use Rattle.rows.specs.Area.{most_rows, nexts_at, row_in, next_in}
 use Rattle.index.specs.Indexed.{Indexed}
-use Rattle.search.specs.declared.Turn.{Turn}
-use Rattle.search.specs.declared.Turn.TheVariants.{Goes, Over}
 
 -- the first n states
 unfoldable pub states_in : List ℕ → ℕ → List State
@@ -40,9 +38,9 @@ pub record InRow (m : Machine State) (room : ℕ) (l : List ℕ) (n i x : ℕ) (
   pub stands : row_in l i ≡ s
 
 -- after a state
-abbrev pub RowDone : Machine State → ℕ → List ℕ → ℕ → Turn → List ℕ → Type 0
-RowDone m room l i (Goes n) k = Going m room k n (i + 1) 0 × (length k ≡ length l)
-RowDone m room l i Over k = TooMany m room × (length k ≡ length l)
+abbrev pub RowDone : Machine State → ℕ → List ℕ → ℕ → Option ℕ → List ℕ → Type 0
+RowDone m room l i (Some n) k = Going m room k n (i + 1) 0 × (length k ≡ length l)
+RowDone m room l i None k = TooMany m room × (length k ≡ length l)
 
 -- n states: these are they, numbered, and these their next numbers
 pub record Found (m : Machine State) (room : ℕ) (l : List ℕ) (n : ℕ) : Type 0 where
@@ -51,6 +49,6 @@ pub record Found (m : Machine State) (room : ℕ) (l : List ℕ) (n : ℕ) : Typ
   pub follows : Follows m (states_in l n) (next_in l)
 
 -- "the numbering where it fits", with the next numbers, or "reachable states above the room"
-abbrev pub Searched : Machine State → ℕ → List ℕ → Turn → List ℕ → Type 0
-Searched m room l (Goes n) k = Found m room k n × (length k ≡ length l)
-Searched m room l Over k = TooMany m room × (length k ≡ length l)
+abbrev pub Searched : Machine State → ℕ → List ℕ → Option ℕ → List ℕ → Type 0
+Searched m room l (Some n) k = Found m room k n × (length k ≡ length l)
+Searched m room l None k = TooMany m room × (length k ≡ length l)

@@ -11,10 +11,10 @@ ghost use Rattle.search.specs.Going.{Sized, Going, InRow, RowDone, Searched};
 ghost use Rattle.search.specs.Masks.{Earlier, StepDone};
 
 use clock::State;
-use index::Look;
-use rows::{bytes, next, row};
+use rows::{next, row};
 
 // What is searched: a tree's statements and case tests, the clock's fuel, the word at the start, the inputs, and the room.
+// The tree goes beside it: `machine_in` names the bytes and these numbers apart.
 #[derive(Clone, Copy)]
 pub struct Task {
     pub count: u16,
@@ -24,41 +24,31 @@ pub struct Task {
     pub room: usize,
 }
 
-// So many states, or more than the room.
+// So many states, and the input bits that a clock looked at.
 #[derive(Clone, Copy)]
-pub enum Turn {
-    Goes(usize),
-    Over,
+pub struct Met {
+    pub states: usize,
+    pub looked: u8,
 }
 
-// So many states and what was looked at, or more than the room.
-#[derive(Clone, Copy)]
-pub enum Step {
-    Met(usize, u8),
-    Full,
-}
-
-// An earlier input that x was not told apart from, or x: from input 0 on, each time with the bits that were looked at so far.
-fn earlier(masks: &[u8; 64], x: u32) -> u32
+// An earlier input that x was not told apart from: from input 0 on, each time with the bits that were looked at so far.
+fn earlier(masks: &[u8; 64], x: u32) -> Option<u32>
     requires { x < 64 }
     ensures { Earlier masks.now x result }
 {
     let mut seen: u32 = 0;
-    let mut turns: u32 = 0;
-    while turns < 7 {
+    for _ in 0..7 {
         let p = x & seen;
-        let mask = bytes::wide4(masks[p as usize]);
-        if p < x {
-            if (x & mask) == (p & mask) {
-                return p;
-            }
-        } else {
-            return x;
+        if p >= x {
+            return None;
         }
-        seen = seen | mask;
-        turns += 1;
+        let mask = u32::from(masks[p as usize]);
+        if (x & mask) == (p & mask) {
+            return Some(p);
+        }
+        seen |= mask;
     }
-    x
+    None
 }
 
 // The next number of an earlier input once more.
@@ -70,7 +60,7 @@ fn copy_next(area: &mut [u8], i: usize, x: usize, p: usize)
     next::put(area, i, x, j);
 }
 
-// A clock: state i, which is s, with input x.
+// A clock: state i, which is s, with input x. None where there are more states than the room.
 fn clocked(
     tree: &[u8; 16384],
     area: &mut [u8],
@@ -79,73 +69,57 @@ fn clocked(
     i: usize,
     s: State,
     x: u32,
-) -> Step
+) -> Option<Met>
     requires { Ready tree.now task.count task.left × InRow (machine_in tree.now task) task.room area.old n i x s × (x < task.inputs) }
     ensures { StepDone (machine_in tree.now task) task.room area.old i x s result area.new }
 {
     let c = clock::step(tree, task.count, task.left, s, x);
     let t = c.state;
     let looked = c.looked;
-    let found = index::find(area, n, t);
-    match found {
-        Look::Known(j) => {
+    match index::find(area, n, t) {
+        Ok(j) => {
             next::put(area, i, x as usize, j);
-            return Step::Met(n, looked);
+            Some(Met { states: n, looked })
         }
-        Look::New(slot) => {
+        Err(slot) => {
             if n < task.room {
                 index::add(area, n, slot, t);
                 next::put(area, i, x as usize, n);
-                return Step::Met(n + 1, looked);
+                return Some(Met {
+                    states: n + 1,
+                    looked,
+                });
             }
-            return Step::Full;
+            None
         }
     }
 }
 
-fn no_masks() -> [u8; 64]
-    ensures { length result ≡ 64 }
-{
-    [0u8; 64]
-}
-
 // All inputs of state i.
-fn one_row(tree: &[u8; 16384], area: &mut [u8], task: Task, n: usize, i: usize) -> Turn
+fn one_row(tree: &[u8; 16384], area: &mut [u8], task: Task, n: usize, i: usize) -> Option<usize>
     requires { Ready tree.now task.count task.left × Going (machine_in tree.now task) task.room area.old n i 0 × (i < n) }
     ensures { RowDone (machine_in tree.now task) task.room area.old i result area.new }
 {
     let s = row::read(area, i);
-    let mut masks = no_masks();
+    let mut masks = [0u8; 64];
     let mut m = n;
-    let mut x: u32 = 0;
-    while x < task.inputs {
+    for x in 0..task.inputs {
         let at = x as usize;
-        let p = earlier(&masks, x);
-        if p < x {
+        if let Some(p) = earlier(&masks, x) {
             let from = p as usize;
             copy_next(area, i, at, from);
             masks[at] = masks[from];
-            x += 1;
             continue;
         }
-        let r = clocked(tree, area, task, m, i, s, x);
-        match r {
-            Step::Full => {
-                return Turn::Over;
-            }
-            Step::Met(k, looked) => {
-                m = k;
-                masks[at] = looked;
-                x += 1;
-                continue;
-            }
-        }
+        let met = clocked(tree, area, task, m, i, s, x)?;
+        m = met.states;
+        masks[at] = met.looked;
     }
-    Turn::Goes(m)
+    Some(m)
 }
 
-// All reachable states, with their next numbers, or that they are more than the room.
-pub fn search(tree: &[u8; 16384], area: &mut [u8], task: Task) -> Turn
+// The number of all reachable states, with their next numbers, or none where they are more than the room.
+pub fn search(tree: &[u8; 16384], area: &mut [u8], task: Task) -> Option<usize>
     requires { Ready tree.now task.count task.left × Sized (machine_in tree.now task) task.room area.old × (0 < task.room) }
     ensures { Searched (machine_in tree.now task) task.room area.old result area.new }
 {
@@ -155,17 +129,10 @@ pub fn search(tree: &[u8; 16384], area: &mut [u8], task: Task) -> Turn
     index::add(area, 0, home, s);
     let mut n: usize = 1;
     let mut i: usize = 0;
+    // The bound grows while states are found, which the range of a `for` does not.
     while i < n {
-        let r = one_row(tree, area, task, n, i);
-        match r {
-            Turn::Over => {
-                return Turn::Over;
-            }
-            Turn::Goes(k) => {
-                n = k;
-            }
-        }
+        n = one_row(tree, area, task, n, i)?;
         i += 1;
     }
-    Turn::Goes(n)
+    Some(n)
 }

@@ -2,23 +2,35 @@
 -- Assumes nothing.
 use native.Mathlib.Omega.{arith}
 use lib.ListN.{drop}
-use Rattle.compiler.proofs.Ends.{known, behind-long, sized, over_so, few-states, small-so, short-so, made_so}
+use mathlib.Core.Path.{◌≡◌}
+use Rattle.compiler.proofs.Ends.{task_of, k_small, known, behind-long, sized, over_so, small-so, short-so, made_so}
+use Rattle.compiler.specs.Answered.{EndsSo, file_made}
 use Rattle.compiler.proofs.finish.Goals as goal
 
-pub search-found-requires : goal.search-found-requires
-search-found-requires c = (c.requires.0.ready c.args.task.left c.requires.1, sized (known c.args.task c.requires.0 c.requires.1 c.requires.2) c.requires.3 (behind-long c.args.at c.args.work.now c.requires.4), c.requires.3.room.some, omega (arith, c.requires.3.work, c.requires.4))
+pub pow2-requires : goal.pow2-requires
+pow2-requires c = omega (arith, k_small c.requires.0)
 
-pub returns-in-Over : goal.returns-in-Over
-returns-in-Over c = let g = known c.args.task c.requires.0 c.requires.1 c.requires.2 in let b = behind-long c.args.at c.args.work.now c.requires.4 in (over_so g c.requires.3 (drop c.args.at c.args.work.now) b c.search-found.result (drop c.args.at c.search-found.new.work) c.search-found.ensures.0 c.in-Over.is c.refused.result c.refused.ensures, c.search-found.ensures.1)
+pub search-requires : goal.search-requires
+search-requires c = let g = known (task_of c.args.p c.pow2.result c.args.room) c.requires.0 c.requires.1 c.pow2.ensures.0 in
+    (c.requires.0.ready 1536 c.requires.1, sized g c.requires.2 (behind-long 16384 c.args.work.now (omega arith)), c.requires.2.room.some, omega (arith, c.requires.2.work))
 
-pub overflow_cast-states : goal.overflow_cast-states
-overflow_cast-states c = let g = known c.args.task c.requires.0 c.requires.1 c.requires.2 in let b = behind-long c.args.at c.args.work.now c.requires.4 in omega (arith, few-states g c.requires.3 (drop c.args.at c.args.work.now) b c.search-found.result (drop c.args.at c.search-found.new.work) c.search-found.ensures.0 c.in-Goes.n c.in-Goes.is)
+pub returns-in_default : goal.returns-in_default
+returns-in_default c = let g = known (task_of c.args.p c.pow2.result c.args.room) c.requires.0 c.requires.1 c.pow2.ensures.0 in
+    (over_so g c.requires.2 (drop 16384 c.args.work.now) (drop 16384 c.search.new.work) c.in_default.ensures.0, c.search.ensures.1)
 
-pub write_file-filed-requires : goal.write_file-filed-requires
-write_file-filed-requires c = let g = known c.args.task c.requires.0 c.requires.1 c.requires.2 in let b = behind-long c.args.at c.args.work.now c.requires.4 in (small-so g c.requires.3 (drop c.args.at c.args.work.now) b c.search-found.result (drop c.args.at c.search-found.new.work) c.search-found.ensures.0 c.in-Goes.n c.in-Goes.is, omega (arith, c.requires.3.work, c.requires.4, c.search-found.ensures.1))
+pub write_file-requires : goal.write_file-requires
+write_file-requires c = let g = known (task_of c.args.p c.pow2.result c.args.room) c.requires.0 c.requires.1 c.pow2.ensures.0 in (
+  small-so g c.requires.2 (drop 16384 c.args.work.now) (drop 16384 c.search.new.work) c.in-Some.n c.in-Some.ensures.0 (behind-long 16384 c.args.work.now (omega arith)),
+  omega (arith, c.requires.2.work, c.search.ensures.1),
+)
 
-pub returns-in-Short : goal.returns-in-Short
-returns-in-Short c = let g = known c.args.task c.requires.0 c.requires.1 c.requires.2 in let b = behind-long c.args.at c.args.work.now c.requires.4 in (short-so g c.requires.3 (drop c.args.at c.args.work.now) b c.search-found.result (drop c.args.at c.search-found.new.work) c.search-found.ensures.0 c.in-Goes.n c.in-Goes.is c.write_file-filed.result c.write_file-filed.new.file c.write_file-filed.ensures c.in-Short.is c.refused-in-Short.result c.refused-in-Short.ensures, c.search-found.ensures.1)
+pub returns-in_default-write_file : goal.returns-in_default-write_file
+returns-in_default-write_file c = let g = known (task_of c.args.p c.pow2.result c.args.room) c.requires.0 c.requires.1 c.pow2.ensures.0 in
+    (short-so g c.requires.2 (drop 16384 c.args.work.now) (drop 16384 c.search.new.work) c.in-Some.n c.in-Some.ensures.0 c.write_file.new.file c.in_default-write_file.ensures, c.search.ensures.1)
 
-pub returns-in-Blocks : goal.returns-in-Blocks
-returns-in-Blocks c = let g = known c.args.task c.requires.0 c.requires.1 c.requires.2 in let b = behind-long c.args.at c.args.work.now c.requires.4 in (made_so g c.requires.3 (drop c.args.at c.args.work.now) b c.search-found.result (drop c.args.at c.search-found.new.work) c.search-found.ensures.0 c.in-Goes.n c.in-Goes.is c.write_file-filed.result c.write_file-filed.new.file c.write_file-filed.ensures c.in-Blocks.b c.in-Blocks.is, c.search-found.ensures.1)
+pub returns : goal.returns
+returns c = let g = known (task_of c.args.p c.pow2.result c.args.room) c.requires.0 c.requires.1 c.pow2.ensures.0 in
+    rw c.from.ensures (
+      made_so g c.requires.2 (drop 16384 c.args.work.now) (drop 16384 c.search.new.work) c.in-Some.n c.in-Some.ensures.0 c.write_file.new.file c.in-Some-write_file.blocks c.in-Some-write_file.ensures,
+      c.search.ensures.1,
+    )

@@ -6,6 +6,6 @@ use Rattle.index.proofs.hash.Goals as goal
 
 pub returns : goal.returns
 unfolding hash_of
-returns c = let e5 = c.scaled-5.ensures.0 ∙ ap (λ (x : ℕ). x * 60493) c.wide2.ensures.0 in
-    let e6 = c.scaled-6.ensures.0 ∙ ap (λ (x : ℕ). x * 35969) c.wide2-2.ensures.0 in
-    (rw (c.scaled.ensures.0, c.scaled-2.ensures.0, c.scaled-3.ensures.0, c.scaled-4.ensures.0, e5, e6), omega arith)
+returns c = let e5 = c.scaled-5.ensures.0 ∙ ap (λ (x : ℕ). x * 60493) c.from-2.ensures in
+    let e6 = c.scaled-6.ensures.0 ∙ ap (λ (x : ℕ). x * 35969) c.from-3.ensures in
+    (rw (c.from.ensures, c.scaled.ensures.0, c.scaled-2.ensures.0, c.scaled-3.ensures.0, c.scaled-4.ensures.0, e5, e6), omega arith)

@@ -5,7 +5,7 @@ use Rattle.compiler.proofs.Calls.{file_inside}
 use Rattle.listing.proofs.answer.Goals as goal
 
 pub slice_bounds-file-end : goal.slice_bounds-file-end
-slice_bounds-file-end g c = file_inside c.compile-compiled.result c.compile-compiled.ensures c.in-Made.is
+slice_bounds-file-end g c = file_inside c.compile.result c.compile.ensures c.in-Ok.is
 
 pub slice_bounds-listing-end : goal.slice_bounds-listing-end
-slice_bounds-listing-end g c = sym (length-take-le _ _ (file_inside c.compile-compiled.result c.compile-compiled.ensures c.in-Made.is))
+slice_bounds-listing-end g c = sym (length-take-le _ _ (file_inside c.compile.result c.compile.ensures c.in-Ok.is))

@@ -1,4 +1,3 @@
-use Prim.Native.Nat.{◌-◌, ◌≤◌}
 use mathlib.Core.Path.{◌≡◌}
 use lib.ListN.{length}
 use Rattle.rows.specs.Area.{row_at}
@@ -6,7 +5,4 @@ use Rattle.rows.proofs.Rows.{Begun}
 use Rattle.rows.proofs.row.read.Given as goal
 
 abbrev pub invariant-loop-e : goal.invariant-loop-e
-invariant-loop-e l = (l.e ≤ 8) × (length l.entries ≡ 8) × Begun l.area (row_at l.i) l.entries l.e
-
-abbrev pub decreases-loop-e : goal.decreases-loop-e
-decreases-loop-e l = 8 - l.e
+invariant-loop-e l = (length l.entries ≡ 8) × Begun l.area (row_at l.i) l.entries l.e
