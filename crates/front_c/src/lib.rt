@@ -24,6 +24,7 @@ pub extern "C" fn windnadel_check(text: &[u8]) -> u64
 }
 
 // What its words alone say: 0, or refusal 4 likewise, its place modulo 2^32.
+// The 4 stays a number: a Refusal<u32> would first need the place of any text cut to 32 bits, which this sum says itself.
 #[unsafe(no_mangle)]
 pub extern "C" fn windnadel_words(text: &[u8]) -> u64
     ensures { result ≡ stop_code (stop_of (words_of text.now)) }
