@@ -7,7 +7,6 @@ ghost use Rattle.parts.specs.Beside.{beside};
 ghost use Rattle.measure.specs.Counted.{Ready, RowCame, One, All, CaseCame, CasesCame, BranchCame, BranchesCame, under_call, MeasuredCame};
 
 // s, t, u, levels and around stay parameters: every contract compares `t.old` with `t.new` under `u`, and a struct of them, built anew where u or levels changes, would only stand before each of these names.
-// A row stays a number: the law of a row, `StatementRow` of descent_law, is by number.
 
 use frames::{Under, put};
 use hand::Here;
