@@ -1,9 +1,10 @@
 -- The running controller in document 01's terms, and what a call that is lent it promises.
 -- Assumes nothing.
-use Rattle.std.specs.Prelude.{◌≡◌}
+use Rattle.std.specs.Prelude.{◌≡◌, ℕ, Result}
 use Rattle.file_law.specs.Answer.{Answer}
 use Rattle.file_law.specs.Table.{Running}
 use Rattle.file_law.specs.Stepping.{after}
+use Rattle.refusals.specs.declared.Refusal.{Refusal}
 use Rattle.moves.specs.Meaning.{meaning}
 use Rattle.moves.specs.declared.Stands.{Stands}
 use Rattle.controller.specs.declared.Controller.{Controller}
@@ -13,6 +14,6 @@ abbrev pub running : Controller → Running
 running c = record { state = c.state; outputs = c.outputs }
 
 -- the call answers so, and the record at exit is what the answer says: "For a refusal the record stays."
-pub record Took (answer : Answer Running) (entry : Controller) (r : Stands) (exit : Controller) : Type 0 where
+pub record Took (answer : Answer Running) (entry : Controller) (r : Result Stands (Refusal ℕ)) (exit : Controller) : Type 0 where
   pub answers : meaning r ≡ answer
   pub keeps : running exit ≡ after (meaning r) (running entry)

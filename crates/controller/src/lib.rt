@@ -7,28 +7,26 @@ ghost use Rattle.moves.specs.Meaning.{meaning};
 ghost use Rattle.controller.specs.Record.{running, Took};
 
 use moves::Stands;
+use refusals::Refusal;
 
-#[derive(Clone, Copy)]
+#[derive(Clone, Copy, Debug, PartialEq, Eq)]
 pub struct Controller {
     pub state: u32,
     pub outputs: u32,
 }
 
 // The record after an answer: as it was where that is a refusal.
-pub fn moved(c: Controller, r: Stands) -> Controller
+pub fn moved(c: Controller, r: Result<Stands, Refusal<u32>>) -> Controller
     ensures { running result ≡ after (meaning r) (running c) }
 {
     match r {
-        Stands::At { state, outputs } => Controller { state, outputs },
-        Stands::Refused {
-            number: _,
-            place: _,
-        } => c,
+        Ok(Stands { state, outputs }) => Controller { state, outputs },
+        Err(_) => c,
     }
 }
 
 // Opens a file in place: state 0 and its outputs, or a refusal that leaves the record as it was.
-pub fn open_here(c: &mut Controller, file: &[u8]) -> Stands
+pub fn open_here(c: &mut Controller, file: &[u8]) -> Result<Stands, Refusal<u32>>
     ensures { Took (start_answer file.now) c.old result c.new }
 {
     let r = stepper::start(file);
@@ -37,7 +35,7 @@ pub fn open_here(c: &mut Controller, file: &[u8]) -> Stands
 }
 
 // One step in place: the next state and its outputs, or a refusal that leaves the record as it was.
-pub fn step_here(c: &mut Controller, file: &[u8], input: u32) -> Stands
+pub fn step_here(c: &mut Controller, file: &[u8], input: u32) -> Result<Stands, Refusal<u32>>
     ensures { Took (step_answer file.now c.old.state input) c.old result c.new }
 {
     let r = stepper::step(file, c.state, input);

@@ -12,7 +12,7 @@ fn next(t: &[u32; 256], r: u32, b: u8) -> u32
     requires { Remainders t.now }
     ensures { result ≡ step_byte r b }
 {
-    let x = r ^ (b as u32);
+    let x = r ^ u32::from(b);
     t[(x % 256) as usize] ^ (x / 256)
 }
 
@@ -22,10 +22,8 @@ fn over(t: &[u32; 256], s: &[u8]) -> u32
     ensures { result ≡ register ones s.now }
 {
     let mut r: u32 = 0xFFFF_FFFF;
-    let mut i = 0;
-    while i < s.len() {
-        r = next(t, r, s[i]);
-        i += 1;
+    for b in s {
+        r = next(t, r, *b);
     }
     r
 }

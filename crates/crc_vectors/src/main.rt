@@ -10,14 +10,10 @@ use std::rt::{Env, Files};
 fn one(rt: &(impl Env + Files + Print), errors: &impl Print, n: usize) -> io::Result<()> {
     let mut path = [0u8; 4096];
     let mut file = [0u8; 4096];
-    let given = input::named(rt, errors, n, b"argument", &mut path, &mut file);
-    if given.found {
-        let length = given.name;
-        let got = given.bytes;
-        let check = crc::crc(&file[..got]);
-        rt.write_all(&path[..length])?;
-        rt.write_all(b" ")?;
-        println!(rt; "{check:08x}")?;
+    if let Some(given) = input::named(rt, errors, n, b"argument", &mut path, &mut file) {
+        let check = crc::crc(given.bytes);
+        rt.write_all(given.name)?;
+        println!(rt; " {check:08x}")?;
     }
     Ok(())
 }

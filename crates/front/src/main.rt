@@ -23,21 +23,17 @@ fn answer(to: &impl Print, bytes: &[u8]) -> io::Result<()> {
 // A source longer than the buffer is cut at 65,536 bytes, and refused with 3 as the whole would be.
 fn standard(rt: &(impl Input + Print)) -> io::Result<()> {
     let mut buffer = [0u8; 65536];
-    let got = input::standard(rt, &mut buffer);
-    answer(rt, &buffer[..got])
+    answer(rt, input::standard(rt, &mut buffer))
 }
 
 // .. and so is the file that argument n names.
 fn named(rt: &(impl Env + Files + Print), errors: &impl Print, n: usize) -> io::Result<()> {
     let mut path = [0u8; 4096];
     let mut buffer = [0u8; 65536];
-    let given = input::named(rt, errors, n, b"argument", &mut path, &mut buffer);
-    if given.found {
-        let length = given.name;
-        let got = given.bytes;
-        text(rt, &path[..length])?;
+    if let Some(given) = input::named(rt, errors, n, b"argument", &mut path, &mut buffer) {
+        text(rt, given.name)?;
         text(rt, b": ")?;
-        answer(rt, &buffer[..got])?;
+        answer(rt, given.bytes)?;
     }
     Ok(())
 }

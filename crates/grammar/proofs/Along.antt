@@ -13,7 +13,7 @@ use Rattle.language.proofs.Longest.{no_empty-word}
 use Rattle.language.proofs.Cutting.{words_cut}
 use Rattle.words.specs.Meaning.{word_in, meaning, Sound, Holds, Answers}
 use Rattle.words.specs.Met.{Met}
-use Rattle.words.specs.declared.Stop.{Stop}
+use Rattle.std.specs.Prelude.{Option}
 use Rattle.words.specs.declared.Word.{Word}
 use Rattle.words.specs.declared.Next.{Next}
 use Rattle.words.specs.declared.Next.TheVariants.{Found, Stops, Over}
@@ -75,13 +75,13 @@ module _ {s : List ℕ} {from n : ℕ} (h : Left s from n) {r : Next} (x : Answe
       }
 
   pub at_end_lem : r ≡ Over → Stands s (record { kind = 0; number = n; place = length s; next = from })
-  at_end_lem e = let (d, q) = met_over h.rest (said e) in ends_at_lem (length s) d (ap (λ (o : Stop). ends_at o (length s)) q) (omega arith)
+  at_end_lem e = let (d, q) = met_over h.rest (said e) in ends_at_lem (length s) d (ap (λ (o : Option ℕ). ends_at o (length s)) q) (omega arith)
 
   pub at_stop : {p : ℕ} → r ≡ Stops p → Stands s (record { kind = 0; number = n; place = p; next = from })
   at_stop {p} e =
       let (d, q) = met-stop h.rest (said e) in
       let y : Holds s from (Stops p) = (subst (Answers s from) e x).holds in
-      ends_at_lem p d (ap (λ (o : Stop). ends_at o (length s)) q) (omega (arith, y.1))
+      ends_at_lem p d (ap (λ (o : Option ℕ). ends_at o (length s)) q) (omega (arith, y.1))
 
 module _ {s : List ℕ} {w : Here} (x : Stands s w) (n : ¬ (w.kind ≡ 0)) where
   -- a word has a next place, and its number is less than the text's length

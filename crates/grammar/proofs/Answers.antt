@@ -1,6 +1,6 @@
 -- From what the reader says to the definition's answer.
 -- Assumes nothing.
-use mathlib.Core.Bool.{Bool, true, false}
+use mathlib.Core.Bool.{true}
 use mathlib.Core.Path.{◌≡◌, refl, sym, ◌∙◌, ap, subst}
 use mathlib.Core.List.{List, [], ◌∷◌, map}
 use Prim.Native.Nat.{ℕ, zero, suc, ◌≤◌, ◌<◌}
@@ -22,44 +22,39 @@ use Rattle.language.proofs.Cutting.{words_cut}
 use Rattle.words.specs.Meaning.{stop_of}
 use Rattle.words.specs.Met as met
 use Rattle.words.proofs.Meeting.{end_met, is_met, end_is, met-words}
-use Rattle.words.specs.declared.Stop.{Stop}
-use Rattle.words.specs.declared.Stop.TheVariants.{At, None}
+use Rattle.std.specs.Prelude.{Option, Some, None, Result, Ok, Err}
 use Rattle.grammar_law.specs.Tables as tables
 use Rattle.grammar_law.specs.Codes.{codes, choice}
 use Rattle.grammar_law.specs.Starts.{among, called, across, laid, starts}
 use Rattle.grammar_law.proofs.Serves as serves
 use Rattle.grammar_law.proofs.Serves.{start-row, start-closed}
 use Rattle.grammar_law.proofs.Whole.{all_read, some_read, stops_there}
-use Rattle.grammar.specs.Reading.{code_of, listed, words_in, ends_at, codes_in, Left, Stands, Ready, Said, Meets}
+use Rattle.grammar.specs.Reading.{code_of, listed, words_in, ends_at, codes_in, Left, Stands, Ready, left_at, Said, Meets}
 use Rattle.grammar.specs.Meaning.{Fault}
 use Rattle.grammar.specs.declared.Here.{Here}
-use Rattle.grammar.specs.declared.Got.{Got}
 use Rattle.grammar.proofs.Codes.{kinds_cut}
 use Rattle.grammar.proofs.Along.{stop-inside}
 
 -- ---- a row
 
-module _ (a : Line) (s : List ℕ) (i k e : ℕ) (b : Bool) where
-  pub is_read : b ≡ true → Said a s i k e b → ReadTo codes choice a (codes_in s) i k e
-  is_read q x = subst (Said a s i k e) q x
+module _ (a : Line) (s : List ℕ) (i k : ℕ) {r : Result Here Here} {w : Here} where
+  pub is_read : r ≡ Ok w → Said a s i k r → ReadTo codes choice a (codes_in s) i k w.number
+  is_read q x = subst (Said a s i k) q x
 
-  pub is_stopped : b ≡ false → Said a s i k e b → StopsAt codes choice a (codes_in s) i k e
-  is_stopped q x = subst (Said a s i k e) q x
-
-  pub said-stopped : b ≡ false → StopsAt codes choice a (codes_in s) i k e → Said a s i k e b
-  said-stopped q x = subst (Said a s i k e) (sym q) x
+  pub is_stopped : r ≡ Err w → Said a s i k r → StopsAt codes choice a (codes_in s) i k w.number
+  is_stopped q x = subst (Said a s i k) q x
 
 -- ---- the first pass
 
-refused_at_lem : (q : Words) (e : ℕ) → stop_of q ≡ At e → q ≡ cut.refused e
+refused_at_lem : (q : Words) (e : ℕ) → stop_of q ≡ Some e → q ≡ cut.refused e
 refused_at_lem (words ws) e p = absurd (let z : ◌≡◌ {A = ℕ} 0 1 = cc p in omega arith)
 refused_at_lem (cut.refused o) e p = let same : o ≡ e = cc p in ap cut.refused same
 
-module _ (s : List ℕ) {n : Stop} (x : n ≡ stop_of (words_of s)) where
-  pub four-inside : {e : ℕ} → n ≡ At e → e < length s
+module _ (s : List ℕ) {n : Option ℕ} (x : n ≡ stop_of (words_of s)) where
+  pub four-inside : {e : ℕ} → n ≡ Some e → e < length s
   four-inside {e} f = stop-inside s e (refused_at_lem (words_of s) e (sym x ∙ f))
 
-  pub is_four : {e : ℕ} → n ≡ At e → Checks s (refuses 4 e)
+  pub is_four : {e : ℕ} → n ≡ Some e → Checks s (refuses 4 e)
   is_four {e} f = four (subst (Cut 0 s) (refused_at_lem (words_of s) e (sym x ∙ f)) (words_cut s))
 
 -- ---- the whole text
@@ -104,7 +99,7 @@ module _ (s : List ℕ) where
   -- where there is none, they are the words of the text
   module _ (q : end_met s ≡ None) where
     all-met : words_of s ≡ words (words_in s)
-    all-met = met-words (is_met s) (omega arith) ∙ ap (λ (n : Stop). met.ended n (words_in s)) q
+    all-met = met-words (is_met s) (omega arith) ∙ ap (λ (n : Option ℕ). met.ended n (words_in s)) q
 
     cut_words : Cut 0 s (words (words_in s))
     cut_words = subst (Cut 0 s) all-met (words_cut s)
@@ -116,53 +111,59 @@ module _ (s : List ℕ) where
 
     five_at : {w : Here} → Stands s w → Answers csml most_levels whole_program (rows.words codes (codes_in s)) (refused w.number) → Checks s (refuses 5 w.place)
     five_at {w} x y =
-        subst (λ (p : ℕ). Checks s (refuses 5 p)) (sym (x.place ∙ ap (λ (n : Stop). get_or (map (λ v. v.place) (words_in s)) w.number (ends_at n (length s))) q))
+        subst (λ (p : ℕ). Checks s (refuses 5 p)) (sym (x.place ∙ ap (λ (n : Option ℕ). get_or (map (λ v. v.place) (words_in s)) w.number (ends_at n (length s))) q))
         (five cut_words (known (refused w.number) y))
 
   -- what the reader says from the start row on, of the first word on
-  module _ {t : List ℕ} (r : t ≡ tables.rows) {f : Here} {g : Got} (x : Meets (rows.row codes t 1) s f most_levels g) (i : f.number ≡ 0) where
-    says : Said whole_program s 0 most_levels g.word.number g.ok
+  module _ {t : List ℕ} (r : t ≡ tables.rows) {f : Here} {g : Result Here Here} (x : Meets (rows.row codes t 1) s f most_levels g) (i : f.number ≡ 0) where
+    says : Said whole_program s 0 most_levels g
     says =
-        subst (λ (n : ℕ). Said whole_program s n most_levels g.word.number g.ok) i
-        (subst (λ (a : Line). Said a s f.number most_levels g.word.number g.ok) (ap (λ (l : List ℕ). rows.row codes l 1) r ∙ start-row) x.said)
+        subst (λ (n : ℕ). Said whole_program s n most_levels g) i
+        (subst (λ (a : Line). Said a s f.number most_levels g) (ap (λ (l : List ℕ). rows.row codes l 1) r ∙ start-row) x.said)
 
-    read_to : g.ok ≡ true → ReadTo codes choice whole_program (codes_in s) 0 most_levels g.word.number
-    read_to q = is_read whole_program s 0 most_levels g.word.number g.ok q says
-
-    fault : length s ≤ most_bytes → (end_met s ≡ None → Checks s (refuses 5 g.word.place)) → Fault s g.word.place g.word.next
-    fault h y =
+    fault : {w : Here} → Stands s w → length s ≤ most_bytes → (end_met s ≡ None → Checks s (refuses 5 w.place)) → Fault s w.place w.next
+    fault {w} v h y =
         record {
           short = h;
-          inside = x.word.inside;
-          rest = ap stop_of (met-words x.word.rest x.word.ahead) ∙ end_is (end_met s) _ ∙ sym ends_so;
+          inside = v.inside;
+          rest = ap stop_of (met-words v.rest v.ahead) ∙ end_is (end_met s) _ ∙ sym ends_so;
           five = λ z. y (sym ends_so ∙ z);
         }
 
-    pub not_read : length s ≤ most_bytes → g.ok ≡ false → Fault s g.word.place g.word.next
-    not_read h q = fault h (λ z. five_at z x.word (stops_there (codes_in s) g.word.number (is_stopped whole_program s 0 most_levels g.word.number g.ok q says)))
+    pub not_read : {w : Here} → length s ≤ most_bytes → g ≡ Err w → Fault s w.place w.next
+    not_read {w} h q =
+        let v : Stands s w = subst (λ (o : Result Here Here). Stands s (left_at o)) q x.word in
+        fault v h (λ z. five_at z v (stops_there (codes_in s) w.number (is_stopped whole_program s 0 most_levels q says)))
 
-    pub words-behind : length s ≤ most_bytes → g.ok ≡ true → ¬ (g.word.place ≡ length s) → Fault s g.word.place g.word.next
-    words-behind h q n = fault h (λ z. five_at z x.word (some_read (codes_in s) g.word.number (read_to q) (inside (codes_in s) g.word.number (λ e. n (at_end_lem z (sym e))))))
-      where
-        at_end_lem : end_met s ≡ None → 0 ≡ get_or (codes_in s) g.word.number 0 → g.word.place ≡ length s
-        at_end_lem z e =
-            x.word.place
-            ∙ get_or-eq_default (map (λ v. v.place) (words_in s)) (ends_at (end_met s) (length s)) (omega (arith, ended (words_in s) g.word.number (sym e), length-map (words_in s) code_of, length-map (words_in s) (λ v. v.place)))
-            ∙ ap (λ (n : Stop). ends_at n (length s)) z
+    module _ {w : Here} (q : g ≡ Ok w) where
+      stands : Stands s w
+      stands = subst (λ (o : Result Here Here). Stands s (left_at o)) q x.word
 
-    pub is_program : g.ok ≡ true → g.word.place ≡ length s → Checks s (program (words_in s))
-    is_program q p = go (ℕ_discrete g.word.kind 0)
-      where
-        at_end_lem : g.word.kind ≡ 0 → length (codes_in s) ≤ g.word.number
-        at_end_lem z = ended (words_in s) g.word.number (sym x.word.kind ∙ z)
+      read_to : ReadTo codes choice whole_program (codes_in s) 0 most_levels w.number
+      read_to = is_read whole_program s 0 most_levels q says
 
-        none : (n : Stop) → end_met s ≡ n → ends_at n (length s) ≡ length s → end_met s ≡ None
-        none None e z = e
-        none (At o) e z = let f = stop-inside s o (met-words (is_met s) (omega arith) ∙ ap (λ (n : Stop). met.ended n (words_in s)) e) in absurd (omega arith)
+      pub words-behind : length s ≤ most_bytes → ¬ (w.place ≡ length s) → Fault s w.place w.next
+      words-behind h n = fault stands h (λ z. five_at z stands (some_read (codes_in s) w.number read_to (inside (codes_in s) w.number (λ e. n (at_end_lem z (sym e))))))
+        where
+          at_end_lem : end_met s ≡ None → 0 ≡ get_or (codes_in s) w.number 0 → w.place ≡ length s
+          at_end_lem z e =
+              stands.place
+              ∙ get_or-eq_default (map (λ v. v.place) (words_in s)) (ends_at (end_met s) (length s)) (omega (arith, ended (words_in s) w.number (sym e), length-map (words_in s) code_of, length-map (words_in s) (λ v. v.place)))
+              ∙ ap (λ (n : Option ℕ). ends_at n (length s)) z
 
-        go : Dec (g.word.kind ≡ 0) → Checks s (program (words_in s))
-        go (no n) = absurd (omega (arith, x.word.low n, p))
-        go (yes z) =
-            let i : length (words_in s) ≤ g.word.number = omega (arith, at_end_lem z, length-map (words_in s) code_of) in
-            let o = none (end_met s) refl (sym (x.word.place ∙ get_or-eq_default (map (λ v. v.place) (words_in s)) (ends_at (end_met s) (length s)) (omega (arith, i, length-map (words_in s) (λ v. v.place)))) ∙ p) in
-            fine (cut_words o) (known o sentence (all_read (codes_in s) g.word.number (read_to q) (at_end_lem z)))
+      pub is_program : w.place ≡ length s → Checks s (program (words_in s))
+      is_program p = go (ℕ_discrete w.kind 0)
+        where
+          at_end_lem : w.kind ≡ 0 → length (codes_in s) ≤ w.number
+          at_end_lem z = ended (words_in s) w.number (sym stands.kind ∙ z)
+
+          none : (n : Option ℕ) → end_met s ≡ n → ends_at n (length s) ≡ length s → end_met s ≡ None
+          none None e z = e
+          none (Some o) e z = let f = stop-inside s o (met-words (is_met s) (omega arith) ∙ ap (λ (n : Option ℕ). met.ended n (words_in s)) e) in absurd (omega arith)
+
+          go : Dec (w.kind ≡ 0) → Checks s (program (words_in s))
+          go (no n) = absurd (omega (arith, stands.low n, p))
+          go (yes z) =
+              let i : length (words_in s) ≤ w.number = omega (arith, at_end_lem z, length-map (words_in s) code_of) in
+              let o = none (end_met s) refl (sym (stands.place ∙ get_or-eq_default (map (λ v. v.place) (words_in s)) (ends_at (end_met s) (length s)) (omega (arith, i, length-map (words_in s) (λ v. v.place)))) ∙ p) in
+              fine (cut_words o) (known o sentence (all_read (codes_in s) w.number read_to (at_end_lem z)))

@@ -1,20 +1,17 @@
 -- The words of a text as a reader of tables goes along them, and what it promises.
 -- Assumes nothing.
-use Rattle.std.specs.Prelude.{Bool, true, false, ◌≡◌, ◌⊎◌, List, [], map, ℕ, suc, ◌+◌, ◌-◌, ◌≤◌, ◌<◌, length, get_or, drop}
+use Rattle.std.specs.Prelude.{true, Option, Some, None, Result, Ok, Err, ◌≡◌, ◌⊎◌, List, [], map, ℕ, suc, ◌+◌, ◌-◌, ◌≤◌, ◌<◌, length, get_or, drop}
 use Rattle.ll1.specs.Rows.{opening, closing, first_part, start_of, row, closes, Tables, ReadTo, StopsAt}
 use Rattle.language.specs.Words as Language
 use Rattle.language.specs.Words.{Words, words, refused}
 use Rattle.language.specs.Grammar.{Line, most_levels}
 use Rattle.language.specs.Texts.{most_bytes}
 use Rattle.words.specs.Met.{Met}
-use Rattle.words.specs.declared.Stop as scanned
-use Rattle.words.specs.declared.Stop.TheVariants.{At, None}
 use Rattle.words.proofs.Meeting.{words_met, end_met}
 use Rattle.words.proofs.Only.{number_of}
 use Rattle.grammar_law.specs.Tables.{row_bytes, cell_count, depth, turn}
 use Rattle.grammar_law.specs.Codes.{codes, choice}
 use Rattle.grammar.specs.declared.Here.{Here}
-use Rattle.grammar.specs.declared.Got.{Got}
 use Rattle.grammar.specs.declared.Turn.{Turn}
 use Rattle.grammar.specs.declared.Turn.TheVariants.{End, Stop, Word, Level, Last, Call}
 
@@ -32,9 +29,9 @@ abbrev pub words_in : List ℕ → List Language.Word
 words_in s = words_met s
 
 -- .. and where that end stands, in a text of n bytes
-abbrev pub ends_at : scanned.Stop → ℕ → ℕ
+abbrev pub ends_at : Option ℕ → ℕ → ℕ
 ends_at None n = n
-ends_at (At e) n = e
+ends_at (Some e) n = e
 
 -- the numbers of their kinds
 abbrev pub codes_in : List ℕ → List ℕ
@@ -91,11 +88,16 @@ pub record Ready (rows starts s : List ℕ) (p : ℕ) (w : Here) (k : ℕ) : Typ
   pub word : Stands s w
   pub few : k ≤ most_levels
 
--- from word i on, with k levels left, row a is read up to word e; or word e is the first that it lets no program have there
-abbrev pub Said : Line → List ℕ → ℕ → ℕ → ℕ → Bool → Type 0
-Said a s i k e true = ReadTo codes choice a (codes_in s) i k e
-Said a s i k e false = StopsAt codes choice a (codes_in s) i k e
+-- where a row was left
+abbrev pub left_at : Result Here Here → Here
+left_at (Ok w) = w
+left_at (Err w) = w
 
-pub record Meets (a : Line) (s : List ℕ) (w : Here) (k : ℕ) (r : Got) : Type 0 where
-  pub word : Stands s r.word
-  pub said : Said a s w.number k r.word.number r.ok
+-- from word i on, with k levels left, row a is read up to this word; or it is the first that the row lets no program have there
+abbrev pub Said : Line → List ℕ → ℕ → ℕ → Result Here Here → Type 0
+Said a s i k (Ok w) = ReadTo codes choice a (codes_in s) i k w.number
+Said a s i k (Err w) = StopsAt codes choice a (codes_in s) i k w.number
+
+pub record Meets (a : Line) (s : List ℕ) (w : Here) (k : ℕ) (r : Result Here Here) : Type 0 where
+  pub word : Stands s (left_at r)
+  pub said : Said a s w.number k r

@@ -15,13 +15,10 @@ pub fn symbol_at(rows: &Rows, p: usize) -> u8
     requires { length rows.now ≤ row_bytes }
     ensures { result ≡ get_or rows.now p 0 }
 {
-    if p < tables::ROW_BYTES {
-        return rows[p];
-    }
-    0
+    rows.get(p).copied().unwrap_or(0)
 }
 
-// Where the row of part b begins that a word of kind t calls for; 0 where there is none.
+// Where the row of part b begins that a word of kind t calls for; 0 where there is none, as the table and `start_of` have it.
 pub fn start_at(starts: &Starts, b: u8, t: u8) -> u16
     requires { (first_part ≤ b) × (length starts.now ≤ cell_count) }
     ensures { result ≡ start_of starts.now (b - first_part) t }
@@ -29,9 +26,6 @@ pub fn start_at(starts: &Starts, b: u8, t: u8) -> u16
     if t >= 128 {
         return 0;
     }
-    let at = (b as usize - 128) * 128 + t as usize;
-    if at < tables::CELLS {
-        return starts[at];
-    }
-    0
+    let at = (usize::from(b) - 128) * 128 + usize::from(t);
+    starts.get(at).copied().unwrap_or(0)
 }

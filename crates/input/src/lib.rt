@@ -1,7 +1,7 @@
 // What a program is given to read: standard input, or the file that an argument names. Whatever is past the end of the buffer is not read.
 #![tactic(auto)]
 
-ghost use Rattle.input.specs.Counts.{IsPrefixLen};
+ghost use Rattle.std.specs.Prelude.{◌≤◌, length, IfSome};
 
 use std::env::FillError;
 use std::io::{Input, Print, Read};
@@ -17,107 +17,90 @@ const NO_TEXT: i32 = 84;
 
 const TOO_LONG: i32 = 36;
 
-// Whether there is such a file, how many bytes its name has, and how many of its bytes were read.
+// A file: the name that it was given by, and those of its bytes that were read.
 #[derive(Drop)]
-pub struct Given {
-    pub found: bool,
-    pub name: usize,
-    pub bytes: usize,
+pub struct Given<'a> {
+    pub name: &'a [u8],
+    pub bytes: &'a [u8],
 }
 
-// How many bytes of standard input were read. A read that fails ends them, as the input's end does.
-pub fn standard(rt: &impl Input, buffer: &mut [u8]) -> usize
-    ensures { IsPrefixLen result buffer.new }
+// The bytes of standard input that were read. A read that fails ends them, as the input's end does.
+pub fn standard<'a>(rt: &impl Input, buffer: &'a mut [u8]) -> &'a [u8]
+    ensures { length result.now ≤ length buffer.old }
 {
     let mut reader = rt.reader();
     filled(&mut reader, buffer)
 }
 
-// Reads until the buffer is full, the bytes end or a read fails.
-fn filled(reader: &mut impl Read, buffer: &mut [u8]) -> usize
-    ensures { IsPrefixLen result buffer.new }
+// Reads until the buffer is full, the bytes end or a read fails. The loop counts no index: a read says how far it came.
+fn filled<'a>(reader: &mut impl Read, buffer: &'a mut [u8]) -> &'a [u8]
+    ensures { length result.now ≤ length buffer.old }
 {
     let mut done = 0;
     while done < buffer.len() {
         match reader.read(&mut buffer[done..]) {
-            Ok(0) => break,
+            Ok(0) | Err(_) => break,
             Ok(n) => done += n,
-            Err(_) => break,
         }
     }
-    done
+    &buffer[..done]
 }
 
 // Whether argument n is there.
 pub fn is_given(rt: &impl Env, n: usize) -> bool {
-    match rt.arg(n, &mut []) {
-        Err(FillError::NotPresent) => false,
-        Err(FillError::TooLong) => true,
-        Ok(_) => true,
-    }
+    !matches!(rt.arg(n, &mut []), Err(FillError::NotPresent))
 }
 
-// How many bytes argument n has, which stand at the start of the word; 0 where it is missing or longer than the word.
-pub fn argument(rt: &impl Env, n: usize, word: &mut [u8]) -> usize
-    ensures { IsPrefixLen result word.new }
+// The bytes of argument n, at the start of the word; none where it is missing or longer than the word.
+pub fn argument<'a>(rt: &impl Env, n: usize, word: &'a mut [u8]) -> &'a [u8]
+    ensures { length result.now ≤ length word.old }
 {
-    match rt.arg(n, word) {
-        Ok(length) => length,
-        Err(_) => 0,
-    }
+    let length = rt.arg(n, word).unwrap_or(0);
+    &word[..length]
 }
 
-// The file that argument n names, with its name in path. What fails is told as an error: the usage where the argument is missing.
-pub fn named(
+// The file that argument n names. What fails is told as an error: the usage where the argument is missing.
+pub fn named<'a>(
     rt: &(impl Env + Files),
     errors: &impl Print,
     n: usize,
     usage: &[u8],
-    path: &mut [u8],
-    buffer: &mut [u8],
-) -> Given
-    ensures { IsPrefixLen result.name path.new × IsPrefixLen result.bytes buffer.new }
+    path: &'a mut [u8],
+    buffer: &'a mut [u8],
+) -> Option<Given<'a>>
+    ensures { IfSome result (λ g. (length g.name.now ≤ length path.old) × (length g.bytes.now ≤ length buffer.old)) }
 {
-    let name = match rt.arg(n, path) {
+    let length = match rt.arg(n, path) {
         Ok(length) => length,
-        Err(FillError::NotPresent) => {
-            told::fail(errors, usage, io::Error::from_raw_os_error(MISSING));
-            return Given {
-                found: false,
-                name: 0,
-                bytes: 0,
-            };
-        }
-        Err(FillError::TooLong) => {
-            told::fail(errors, usage, io::Error::from_raw_os_error(TOO_LONG));
-            return Given {
-                found: false,
-                name: 0,
-                bytes: 0,
-            };
+        Err(error) => {
+            told::fail(errors, usage, io::Error::from_raw_os_error(number(error)));
+            return None;
         }
     };
-    match opened(rt, &path[..name]) {
-        Ok(mut file) => Given {
-            found: true,
+    let name = &path[..length];
+    match opened(rt, name) {
+        Ok(mut file) => Some(Given {
             name,
             bytes: filled(&mut file, buffer),
-        },
+        }),
         Err(error) => {
-            told::fail(errors, &path[..name], error);
-            Given {
-                found: false,
-                name,
-                bytes: 0,
-            }
+            told::fail(errors, name, error);
+            None
         }
+    }
+}
+
+fn number(error: FillError) -> i32 {
+    match error {
+        FillError::NotPresent => MISSING,
+        FillError::TooLong => TOO_LONG,
     }
 }
 
 // The file of that name, to be read. A name that is no UTF-8 has none.
 fn opened<R: Files>(rt: &R, name: &[u8]) -> io::Result<R::File> {
-    match std::str::from_utf8(name) {
-        Ok(text) => fs::open(rt, text),
-        Err(_) => Err(io::Error::from_raw_os_error(NO_TEXT)),
-    }
+    let Ok(text) = std::str::from_utf8(name) else {
+        return Err(io::Error::from_raw_os_error(NO_TEXT));
+    };
+    fs::open(rt, text)
 }

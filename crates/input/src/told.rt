@@ -22,10 +22,7 @@ impl<P: Print> fmt::Write for Unnumbered<'_, P> {
             }
             None => s,
         };
-        match self.to.write_all(shown.as_bytes()) {
-            Ok(()) => Ok(()),
-            Err(_) => Err(fmt::Error),
-        }
+        self.to.write_all(shown.as_bytes()).map_err(|_| fmt::Error)
     }
 }
 

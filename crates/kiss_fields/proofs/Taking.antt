@@ -31,9 +31,6 @@ further x at r = get_or-drop at x r 0
 
 -- ---- agreeing
 
-pub agrees_start : (x : List ℕ) (at : ℕ) (w : List ℕ) → at ≤ length x → (0 ≤ length w) × (at + 0 ≤ length x) × (take 0 (drop at x) ≡ take 0 w)
-agrees_start x at w h = (omega arith, omega arith, refl)
-
 pub agrees_on : (x : List ℕ) (at : ℕ) (w : List ℕ) (i : ℕ) → i < length w → at + i < length x → take i (drop at x) ≡ take i w → get_or x (at + i) 0 ≡ get_or w i 0
     → take (i + 1) (drop at x) ≡ take (i + 1) w
 agrees_on x at w i h l e s =

@@ -1,11 +1,9 @@
 -- What taking a field of a text says.
 -- Assumes nothing.
-use Rattle.std.specs.Prelude.{◌≡◌, List, ◌++◌, ℕ, suc, ◌+◌, ◌-◌, ◌≤◌, ◌<◌, true, false, length, get_or, take, drop}
+use Rattle.std.specs.Prelude.{◌≡◌, List, ◌++◌, ℕ, suc, ◌+◌, ◌-◌, ◌≤◌, ◌<◌, Option, Some, None, Result, Ok, Err, length, get_or, take, drop}
 use Rattle.kiss_law.specs.Text.{decimal}
 use Rattle.kiss_law.specs.Fields.{FieldStops}
-use Rattle.kiss_fields.specs.declared.Field.{Field}
 use Rattle.kiss_fields.specs.declared.Taken.{Taken}
-use Rattle.kiss_fields.specs.declared.Taken.TheVariants.{Found, Stop}
 
 -- the text has the first r bytes of w from `at` on, and not one more
 pub record Agrees (x : List ℕ) (at : ℕ) (w : List ℕ) (r : ℕ) : Type 0 where
@@ -26,17 +24,9 @@ pub record Left (m : ℕ) (enc : ℕ → List ℕ) (x : List ℕ) (at place : �
   pub from : at ≤ place
   pub stops : FieldStops m enc (drop at x) (place - at)
 
-abbrev pub Took : ℕ → (ℕ → List ℕ) → List ℕ → ℕ → Taken → Type 0
-Took m enc x at (Found v end) = Stood m enc x at v end
-Took m enc x at (Stop place) = Left m enc x at place
-
--- the same of the record
-pub record TookField (m : ℕ) (enc : ℕ → List ℕ) (x : List ℕ) (at : ℕ) (r : Field) : Type 0 where
-  pub stood : r.found ≡ true → Stood m enc x at r.value r.place
-  pub left : r.found ≡ false → Left m enc x at r.place
-
-abbrev pub Same : Taken → Field → Type 0
-Same t r = (m : ℕ) (enc : ℕ → List ℕ) (x : List ℕ) (at : ℕ) → Took m enc x at t → TookField m enc x at r
+abbrev pub Took : ℕ → (ℕ → List ℕ) → List ℕ → ℕ → Result Taken ℕ → Type 0
+Took m enc x at (Ok taken) = Stood m enc x at taken.value taken.end
+Took m enc x at (Err place) = Left m enc x at place
 
 -- the best of the first a texts of a field, none of which stands from the start of y on
 pub record Nearest (a m : ℕ) (enc : ℕ → List ℕ) (y : List ℕ) (e : ℕ) : Type 0 where
@@ -48,11 +38,10 @@ pub record Nearest (a m : ℕ) (enc : ℕ → List ℕ) (y : List ℕ) (e : ℕ)
   pub short : 1 ≤ length more
   pub first : e < length y → (b : ℕ) → b < a → (z : List ℕ) → ¬ (enc b ≡ take (suc e) y ++ z)
 
--- r is the digit that b is, or 10
-pub record Digit (b r : ℕ) : Type 0 where
-  pub few : r ≤ 10
-  pub is : r < 10 → b ≡ 48 + r
-  pub none : 10 ≤ r → 48 ≤ b → 57 < b
+-- the digit that b is
+abbrev pub Digit : ℕ → Option ℕ → Type 0
+Digit b (Some d) = (d < 10) × (b ≡ 48 + d)
+Digit b None = 48 ≤ b → 57 < b
 
 -- the digits of v stand from `at` on, up to `end`
 pub record ReadSo (x : List ℕ) (at v end : ℕ) : Type 0 where

@@ -2,14 +2,13 @@
 -- Assumes nothing.
 use mathlib.Core.Path.{◌≡◌, refl, sym, ap, ap₂, ◌∙◌, subst}
 use mathlib.Core.List.{List, [], ◌∷◌, ◌++◌, append_assoc, append-nil}
-use Prim.Native.Nat.{ℕ, suc, ◌+◌, ◌*◌, ◌/◌, ◌%◌, ◌^◌, ◌≤◌, ◌<◌}
+use Prim.Native.Nat.{ℕ, suc, ◌+◌, ◌-◌, ◌*◌, ◌/◌, ◌%◌, ◌^◌, ◌≤◌, ◌<◌}
 use native.Mathlib.Nat.{suc-mul}
 use native.Mathlib.Omega.{arith}
-use native.Mathlib.Numerals.{add-one}
-use lib.ListN.{length, get_or, set, take, drop, length-append, length-set, take-append-drop}
+use lib.ListN.{length, set, take, drop, length-append, length-set, take-append-drop}
 use Rattle.file_law.specs.Bytes.{patch}
-use Rattle.file_law.proofs.Patch.{sets-patch, patch-both}
-use lib.Seq.{take-suc, length-take-le}
+use Rattle.file_law.proofs.Patch.{sets-patch, patch-both, length-patch}
+use lib.Seq.{drop-drop}
 use lib.Pow.{shr-shr}
 use Rattle.file_law.specs.Answer.{listed}
 use Rattle.kiss_law.specs.Text.{ascii, decimal, bits, size_line, row_head, row_tail, state_rows}
@@ -66,11 +65,14 @@ pub put-start : (l : List ℕ) (at word : ℕ) → at ≤ length l → Put l at 
 unfolding bits listed
 put-start l at word h = put-none l at h
 
--- ---- a word, byte by byte
+-- ---- a word, as the part from `at` on that comes back
 
-pub put-more : {l m q : List ℕ} {at e r : ℕ} (w : List ℕ) (i : ℕ) → i < length w → at + length w ≤ length l → Put l at (take i w) e m → Put m e (get_or w i 0 ∷ []) r q → Put l at (take (i + 1) w) r q
-put-more w i h room a b =
-    put_as (sym (ap (λ (x : ℕ). take x w) (add-one i) ∙ take-suc w i 0 h)) (put_then (take i w) (get_or w i 0 ∷ []) (omega (arith, length-take-le i w (omega arith))) a b)
+pub put_part : (l w v : List ℕ) (at : ℕ) → at + length w ≤ length l → v ≡ w → Put l at w (at + length w) (take at l ++ (v ++ drop (at + length w - at) (drop at l)))
+unfolding patch
+put_part l w v at h e =
+    let k : at + (at + length w - at) ≡ at + length w = omega arith in
+    let p : take at l ++ (v ++ drop (at + length w - at) (drop at l)) ≡ patch l at w = ap₂ (λ (x r : List ℕ). take at l ++ (x ++ r)) e (drop-drop (at + length w - at) at l ∙ ap (λ (i : ℕ). drop i l) k) in
+    record { end = refl; bytes = p; long = ap length p ∙ length-patch l at w h }
 
 -- ---- pieces
 

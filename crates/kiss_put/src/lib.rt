@@ -18,10 +18,10 @@ pub fn decimal(text: &mut [u8], at: usize, n: u32) -> usize
     ensures { Put text.old at (decimal n) result text.new }
 {
     if n < 10 {
-        return byte(text, at, (48 + n) as u8);
+        return byte(text, at, b'0' + n as u8);
     }
     let end = decimal(text, at, n / 10);
-    byte(text, end, (48 + n % 10) as u8)
+    byte(text, end, b'0' + (n % 10) as u8)
 }
 
 // All of `word`.
@@ -29,12 +29,8 @@ pub fn bytes(text: &mut [u8], at: usize, word: &[u8]) -> usize
     requires { at + length word.now ≤ length text.old }
     ensures { Put text.old at word.now result text.new }
 {
-    let mut end = at;
-    let mut i: usize = 0;
-    while i < word.len() {
-        end = byte(text, end, word[i]);
-        i += 1;
-    }
+    let end = at + word.len();
+    text[at..end].copy_from_slice(word);
     end
 }
 
@@ -45,11 +41,9 @@ pub fn bits(text: &mut [u8], at: usize, count: u32, word: u32) -> usize
 {
     let mut end = at;
     let mut rest = word;
-    let mut j: u32 = 0;
-    while j < count {
-        end = byte(text, end, (48 + rest % 2) as u8);
-        rest = rest / 2;
-        j += 1;
+    for _ in 0..count {
+        end = byte(text, end, b'0' + (rest % 2) as u8);
+        rest /= 2;
     }
     end
 }
@@ -59,8 +53,8 @@ fn mark(text: &mut [u8], at: usize) -> usize
     requires { at + 2 ≤ length text.old }
     ensures { Put text.old at (ascii " s") result text.new }
 {
-    let end = byte(text, at, 32);
-    byte(text, end, 115)
+    let end = byte(text, at, b' ');
+    byte(text, end, b's')
 }
 
 // The line of a size: a dot, its letter, a blank, the number, LF.
@@ -68,11 +62,11 @@ pub fn size_line(text: &mut [u8], at: usize, letter: u8, n: u32) -> usize
     requires { (n < 100000) × (at + length (size_line letter n) ≤ length text.old) }
     ensures { Put text.old at (size_line letter n) result text.new }
 {
-    let dot = byte(text, at, 46);
+    let dot = byte(text, at, b'.');
     let word = byte(text, dot, letter);
-    let blank = byte(text, word, 32);
+    let blank = byte(text, word, b' ');
     let end = decimal(text, blank, n);
-    byte(text, end, 10)
+    byte(text, end, b'\n')
 }
 
 // A row up to its next state's number.
@@ -92,7 +86,7 @@ pub fn row_tail(text: &mut [u8], at: usize, o: u32, outs: u32, next: u32) -> usi
     ensures { Put text.old at (row_tail o outs next) result text.new }
 {
     let end = decimal(text, at, next);
-    let blank = byte(text, end, 32);
+    let blank = byte(text, end, b' ');
     let shown = bits(text, blank, o, outs);
-    byte(text, shown, 10)
+    byte(text, shown, b'\n')
 }

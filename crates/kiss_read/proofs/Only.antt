@@ -3,23 +3,27 @@
 use mathlib.Core.Path.{◌≡◌, sym, ap, ◌∙◌}
 use mathlib.Core.List.{List}
 use Prim.Native.Nat.{ℕ}
-use native.Mathlib.Omega.{arith}
-use Rattle.file_law.proofs.Answers.{same}
+use Rattle.std.proofs.Common.{Result, Ok, Err}
+use Rattle.file_law.proofs.Answers.{never, same}
+use Rattle.refusals.proofs.Only.{same_refusal}
+use Rattle.refusals.specs.Number.{number_of}
+use Rattle.refusals.specs.declared.Refusal.{Refusal}
 use Rattle.kiss_law.specs.Kiss.{KissReads, kiss_code}
 use Rattle.kiss_law.proofs.OneAnswer.{Ends, one-read}
 use Rattle.kiss_read.specs.Meaning.{meaning, ReadCoded}
-use Rattle.kiss_read.specs.declared.Unkissed.{Unkissed}
-use Rattle.kiss_read.specs.declared.Unkissed.TheVariants as unkissed
 
 -- two answers with one meaning are one
-pub one : (a b : Unkissed) → meaning a ≡ meaning b → a ≡ b
-one (unkissed.File n) (unkissed.File m) e = ap unkissed.File (same e)
-one (unkissed.File n) (unkissed.Refused x p) e = let z : ◌≡◌ {A = ℕ} 0 1 = cc in absurd (omega arith)
-one (unkissed.Refused x p) (unkissed.File n) e = let z : ◌≡◌ {A = ℕ} 0 1 = cc in absurd (omega arith)
-one (unkissed.Refused x p) (unkissed.Refused y q) e = cc
+pub one : (a b : Result ℕ (Refusal ℕ)) → meaning a ≡ meaning b → a ≡ b
+one (Ok n) (Ok m) e = ap (λ x. Ok x) (same e)
+one (Ok n) (Err r) e = absurd (never e)
+one (Err r) (Ok n) e = absurd (never (sym e))
+one (Err r) (Err q) e =
+    let n : number_of r.cause ≡ number_of q.cause = cc in
+    let p : r.place ≡ q.place = cc in
+    ap (λ x. Err x) (same_refusal r q n p)
 
 module _ (text buffer : List ℕ) {after other : List ℕ} where
-  pub read_only : (a b : Unkissed) → KissReads text buffer (meaning a) after → KissReads text buffer (meaning b) other → (a ≡ b) × (after ≡ other)
+  pub read_only : (a b : Result ℕ (Refusal ℕ)) → KissReads text buffer (meaning a) after → KissReads text buffer (meaning b) other → (a ≡ b) × (after ≡ other)
   read_only a b c d =
       let e = one-read text buffer c d in
       (one a b (ap (λ (x : Ends). x.0) e), ap (λ (x : Ends). x.1) e)

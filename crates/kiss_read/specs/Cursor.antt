@@ -1,6 +1,6 @@
 -- Where the reading of a good text stands: how many words of the table's stream are behind, and which rows are ahead.
 -- Assumes nothing.
-use Rattle.std.specs.Prelude.{◌≡◌, List, [], ◌∷◌, ◌++◌, ℕ, zero, suc, ◌+◌, ◌*◌, ◌^◌, ◌≤◌, ◌<◌, length, get_or, drop}
+use Rattle.std.specs.Prelude.{◌≡◌, List, [], ◌∷◌, ◌++◌, ℕ, zero, suc, ◌+◌, ◌*◌, ◌^◌, ◌≤◌, ◌<◌, Result, Ok, Err, length, get_or, drop}
 use Rattle.file_law.specs.Table.{Row, Table, outputs_of, row_of}
 use Rattle.file_law.specs.File.{stream_of, with_block}
 use Rattle.file_law.proofs.Lent.{written}
@@ -46,12 +46,17 @@ pub record Ahead (t : Table) (x : List ℕ) (k o n w at : ℕ) : Type 0 where
   pub start : w < 2 → drop at x ≡ from_state t k o 0
   pub row : (state c : ℕ) → w ≡ 2 + (state * row_words k + c) → c < row_words k → state < n → drop at x ≡ ahead t k o state c
 
--- what reading a row tells
-pub record RowIs (x : List ℕ) (k o n state input at : ℕ) (r : Line) : Type 0 where
+-- what a row that is read tells
+pub record Rowed (x : List ℕ) (k o n state input at : ℕ) (r : Line) : Type 0 where
   pub inside : r.end ≤ length x
   pub next : r.next < 65536
   pub outs : r.outs < 65536
   pub is : (w v : ℕ) (rest : List ℕ) → w < 2 ^ o → v < n → drop at x ≡ row_head k state input ++ (row_tail o w v ++ rest) → (r.next ≡ v) × (r.outs ≡ w) × (drop r.end x ≡ rest)
+
+-- what reading a row tells: where none is read, none stands
+abbrev pub RowIs : List ℕ → ℕ → ℕ → ℕ → ℕ → ℕ → ℕ → Result Line ℕ → Type 0
+RowIs x k o n state input at (Ok line) = Rowed x k o n state input at line
+RowIs x k o n state input at (Err place) = (w v : ℕ) (rest : List ℕ) → w < 2 ^ o → v < n → ¬ (drop at x ≡ row_head k state input ++ (row_tail o w v ++ rest))
 
 -- what reading a word tells
 pub record WordIs (x : List ℕ) (k o n w at : ℕ) (r : Got) : Type 0 where

@@ -1,7 +1,6 @@
 -- From field to field of a text.
 -- Assumes nothing.
 use mathlib.Core.Path.{◌≡◌, refl, sym, ap, ap₂, ◌∙◌, subst, fun_ext}
-use mathlib.Core.Bool.{true, false}
 use mathlib.Core.List.{List, [], ◌∷◌, ◌++◌, append_assoc, append-nil}
 use Prim.Native.Nat.{ℕ, suc, ◌+◌, ◌-◌, ◌*◌, ◌^◌, ◌≤◌, ◌<◌}
 use native.Mathlib.Nat.{sub-zero}
@@ -15,10 +14,9 @@ use Rattle.kiss_law.specs.Fields.{Form, over, field, fixed, Spells, Code, Apart,
 use Rattle.kiss_law.specs.Forms.{size_field, next_field, rest_form, state_form, states_form, kiss_form, TextSizes}
 use Rattle.kiss_law.proofs.Fields.{leads-start, leads_on, stops-field, stops_over}
 use Rattle.kiss_law.proofs.Forms.{code_fixed, code_size, apart-rest, apart-states, headed}
-use Rattle.kiss_fields.specs.declared.Field.{Field}
-use Rattle.kiss_fields.specs.Took.{Stood, Left, TookField}
-use Rattle.kiss_walk.specs.Walk.{Stands, rows_form, in_form, Went, Headed, GoodText}
-use Rattle.kiss_walk.specs.declared.Step.{Step}
+use Rattle.kiss_fields.specs.Took.{Stood, Left}
+use Rattle.kiss_walk.specs.Walk.{Stands, rows_form, in_form, Headed, GoodText}
+use Rattle.kiss_walk.specs.declared.Walked.{Walked}
 
 -- up to where a field ends
 reached : (m : ℕ) (enc : ℕ → List ℕ) (x : List ℕ) (at v end : ℕ) → Stood m enc x at v end → take end x ≡ take at x ++ enc v
@@ -52,12 +50,18 @@ past_end x at st h =
 pub starts : (x : List ℕ) → Stands x kiss_form 0
 starts x = record { inside = omega arith; leads = leads-start kiss_form }
 
-module _ (x : List ℕ) (m : ℕ) (enc : ℕ → List ℕ) (rest : ℕ → Form) (at : ℕ) (code : Code m enc) (st : Stands x (field m enc rest) at) (r : Field) (t : TookField m enc x at r) where
-  pub goes : r.found ≡ true → Stands x (rest r.value) r.place
-  goes e = goes_on x m enc rest at code st r.value r.place (t.stood e)
+-- the walk stands before a form whose fields are told apart
+pub record At (x : List ℕ) (f : Form) (at : ℕ) : Type 0 where
+  pub stands : Stands x f at
+  pub apart : Apart f
 
-  pub leaves : Apart (field m enc rest) → r.found ≡ false → FormStops kiss_form x r.place
-  leaves p e = gets_off x m enc rest at code st p r.place (t.left e)
+-- behind a field that stands here
+pub moves : {x : List ℕ} {m : ℕ} {enc : ℕ → List ℕ} {rest : ℕ → Form} {at v end : ℕ} → At x (field m enc rest) at → Stood m enc x at v end → At x (rest v) end
+moves {x} {m} {enc} {rest} {at} {v} {end} a s = record { stands = goes_on x m enc rest at a.apart.1 a.stands v end s; apart = a.apart.2 v s.one }
+
+-- .. or where the text leaves it
+pub stops : {x : List ℕ} {m : ℕ} {enc : ℕ → List ℕ} {rest : ℕ → Form} {at e : ℕ} → At x (field m enc rest) at → Left m enc x at e → FormStops kiss_form x e
+stops {x} {m} {enc} {rest} {at} {e} a l = gets_off x m enc rest at a.apart.1 a.stands a.apart e l
 
 -- ---- the lines before the rows
 
@@ -114,8 +118,12 @@ apart-outputs a ha = (omega arith, code_outputs, λ b hb. apart-rows a b ha hb)
 pub apart-inputs : Apart (size_field 105 1 6 outputs_line)
 apart-inputs = (omega arith, code_inputs, λ a ha. apart-outputs a ha)
 
-pub stands-first : (x : List ℕ) → Stands x (size_field 105 1 6 outputs_line) 0
-stands-first x = subst (λ (f : Form). Stands x f 0) kiss_open (starts x)
+pub at-first : (x : List ℕ) → At x (size_field 105 1 6 outputs_line) 0
+at-first x = record { stands = subst (λ (f : Form). Stands x f 0) kiss_open (starts x); apart = apart-inputs }
+
+-- the number of rows by a unit that is the power
+pub at-rows : (x : List ℕ) (a b u at : ℕ) → u ≡ 2 ^ (a + 1) → At x (rows_line a b) at → At x (size_field 112 u 256 (λ c. states_line a b c)) at
+at-rows x a b u at e r = subst (λ (w : ℕ). At x (size_field 112 w 256 (λ c. states_line a b c)) at) (sym e) r
 
 -- ---- rows
 
@@ -142,11 +150,11 @@ module _ (k o n : ℕ) (z : TextSizes k o n) where
   unfolding state_form
   first_open state h = rows_open state h
 
-  pub stands-row : (x : List ℕ) (state at : ℕ) → state < n → Stands x (rows_form k o n state) at → Stands x (first_head state) at
-  stands-row x state at h s = subst (λ (f : Form). Stands x f at) (first_open state h) s
-
-  pub apart-head : (state : ℕ) → state < n → Apart (first_head state)
-  apart-head state h = subst Apart (first_open state h) (apart-states k o n z.states z.most_states (n - state) state)
+  pub at-row : (x : List ℕ) (state at : ℕ) → state < n → Stands x (rows_form k o n state) at → At x (first_head state) at
+  at-row x state at h s = record {
+    stands = subst (λ (f : Form). Stands x f at) (first_open state h) s;
+    apart = subst Apart (first_open state h) (apart-states k o n z.states z.most_states (n - state) state);
+  }
 
   abbrev pub other_shown : ℕ → ℕ → ℕ → Form
   other_shown state input w = fixed (bits o w) (line_end state (input + 1) w)
@@ -164,11 +172,11 @@ module _ (k o n : ℕ) (z : TextSizes k o n) where
       ap (λ (l : ℕ). rest_form k o n state w l input (rows_form k o n (state + 1))) e
       ∙ ap (λ (j : ℕ). fixed (row_head k state input) (next_field n (λ v. fixed (bits o w) (fixed (10 ∷ []) (rest_form k o n state w (2 ^ k - (input + 1)) j (rows_form k o n (state + 1))))))) (sym (add-one input))
 
-  pub stands-other : (x : List ℕ) (state input w at : ℕ) → input < 2 ^ k → Stands x (in_form k o n state w input) at → Stands x (other_head state input w) at
-  stands-other x state input w at h s = subst (λ (f : Form). Stands x f at) (in_open state input w h) s
-
-  pub apart_other : (state input w : ℕ) → input < 2 ^ k → Apart (other_head state input w)
-  apart_other state input w h = subst Apart (in_open state input w h) (apart-rest k o n z.states z.most_states state w (2 ^ k - input) input (rows_form k o n (state + 1)) (apart-states k o n z.states z.most_states (n - (state + 1)) (state + 1)))
+  pub at-other : (x : List ℕ) (state input w at : ℕ) → input < 2 ^ k → Stands x (in_form k o n state w input) at → At x (other_head state input w) at
+  at-other x state input w at h s = record {
+    stands = subst (λ (f : Form). Stands x f at) (in_open state input w h) s;
+    apart = subst Apart (in_open state input w h) (apart-rest k o n z.states z.most_states state w (2 ^ k - input) input (rows_form k o n (state + 1)) (apart-states k o n z.states z.most_states (n - (state + 1)) (state + 1)));
+  }
 
   -- a state's rows are over
   pub rows-done : (x : List ℕ) (state input w at : ℕ) → 2 ^ k ≤ input → Stands x (in_form k o n state w input) at → Stands x (rows_form k o n (state + 1)) at
@@ -179,6 +187,9 @@ module _ (k o n : ℕ) (z : TextSizes k o n) where
   pub all_done : (x : List ℕ) (state at : ℕ) → n ≤ state → Stands x (rows_form k o n state) at → Stands x (fixed (ascii ".e\n") over) at
   unfolding states_form
   all_done x state at h s = let e : n - state ≡ 0 = omega arith in subst (λ (l : ℕ). Stands x (states_form k o n l state) at) e s
+
+pub at-last : (x : List ℕ) (at : ℕ) → Stands x (fixed (ascii ".e\n") over) at → At x (fixed (ascii ".e\n") over) at
+at-last x at s = record { stands = s; apart = (omega arith, code_fixed (ascii ".e\n"), λ a h. tt) }
 
 -- ---- what was walked
 
@@ -198,30 +209,22 @@ headed_is x a b c d f p₁ p₂ p₃ p₄ p₅ s₁ s₂ s₃ s₄ s₅ =
     let r₄ = reached 1 (λ d. size_line 115 ((d + 1) * (c + 1))) x p₃ d p₄ s₄ ∙ ap₂ (λ (t : List ℕ) (e : ℕ). t ++ size_line 115 e) r₃ n in
     reached 1 (λ f. ascii ".r s0\n") x p₄ f p₅ s₅ ∙ ap (λ (t : List ℕ). t ++ ascii ".r s0\n") r₄ ∙ simp append_assoc
 
--- a step that stops
-pub went_off : (x : List ℕ) (g : ℕ → Form) (r : Step) (place : ℕ) → r ≡ record { found = false; value = 0; place = place } → FormStops kiss_form x place → Went x g r
-went_off x g r place e s = subst (Went x g) (sym e) (record { on = λ c. let z : ◌≡◌ {A = ℕ} 0 1 = cc in absurd (omega arith); off = λ c. s })
-
--- .. as it did before
-pub stays_off : (x : List ℕ) (g h : ℕ → Form) (r : Step) → Went x g r → r.found ≡ false → Went x h r
-stays_off x g h r w e = record { on = λ c. let z : ◌≡◌ {A = ℕ} 0 1 = cc in absurd (omega arith); off = w.off }
-
--- .. and one that goes on
-pub went_on : (x : List ℕ) (g : ℕ → Form) (value place : ℕ) → Stands x (g value) place → Went x g (record { found = true; value = value; place = place })
-went_on x g value place s = record { on = λ c. s; off = λ c. let z : ◌≡◌ {A = ℕ} 0 1 = cc in absurd (omega arith) }
-
 -- the whole text is a written one
-pub good-text : (x : List ℕ) (k o n at end : ℕ) → Headed x k o n at → Stands x over end → length x ≤ end → GoodText x k o n at
-good-text x k o n at end h s l =
+pub good-text : (x : List ℕ) (w : Walked) (end : ℕ) → Headed x w → Stands x over end → length x ≤ end → GoodText x w
+good-text x w end h s l =
+    let k = w.sizes.inputs in
+    let o = w.sizes.outputs in
+    let n = w.sizes.states in
+    let at = w.at in
     let t : Spells kiss_form (take end x ++ []) = (s.leads []).1 refl in
     let u : Spells kiss_form x = subst (Spells kiss_form) (append-nil (take end x) ∙ take_all end x l) t in
     let v : Spells (rows_form k o n 0) (drop at x) = (h.stands.leads (drop at x)).0 (subst (Spells kiss_form) (sym (take-append-drop at x)) u) in
-    let w = headed k o n (drop at x) h.sizes (subst (λ (m : ℕ). Spells (states_form k o n m 0) (drop at x)) (sub-zero n) v) in
+    let d = headed k o n (drop at x) h.sizes (subst (λ (m : ℕ). Spells (states_form k o n m 0) (drop at x)) (sub-zero n) v) in
     let e : heading k o n ++ drop at x ≡ x = ap (λ (y : List ℕ). y ++ drop at x) (sym h.is) ∙ take-append-drop at x in
     record {
       sizes = h.sizes;
-      text = record { table = w.0.table; writable = w.0.writable; is = sym e ∙ w.0.is };
-      sized = w.1;
+      text = record { table = d.0.table; writable = d.0.writable; is = sym e ∙ d.0.is };
+      sized = d.1;
       is = h.is;
       inside = h.stands.inside;
     }

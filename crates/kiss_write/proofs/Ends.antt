@@ -1,23 +1,19 @@
 -- How a write ends, and the heading in its parts.
 -- Assumes nothing.
 use mathlib.Core.Path.{◌≡◌, sym, ap, ◌∙◌, subst}
-use mathlib.Core.Logic.{◌⊎◌}
 use mathlib.Core.List.{List, [], ◌++◌}
 use Prim.Native.Nat.{ℕ, ◌+◌, ◌*◌, ◌^◌, ◌≤◌, ◌<◌}
 use native.Mathlib.Omega.{arith}
 use lib.ListN.{length}
-use Rattle.file_law.specs.Answer.{gives}
+use Rattle.file_law.specs.Answer.{gives, refuses}
 use Rattle.file_law.specs.Reading.{stream_in, open_answer}
 use Rattle.file_law.proofs.Patch.{front}
 use Rattle.kiss_law.specs.Text.{ascii, size_line, heading}
-use Rattle.kiss_law.specs.Kiss.{laid, text_in, Wired, KissWrites}
+use Rattle.kiss_law.specs.Kiss.{short_buffer, laid, text_in, Wired, KissWrites}
 use Rattle.kiss_law.specs.Kiss as kiss
 use Rattle.kiss_put.specs.Put.{Put}
 use Rattle.kiss_put.proofs.Puts.{under_start, under_on, under_as, under_end}
 use Rattle.kiss_write.specs.Held.{held_rows, held_text}
-use Rattle.kiss_write.specs.Meaning.{meaning}
-use Rattle.kiss_write.specs.declared.Kissed.{Kissed}
-use Rattle.kiss_write.specs.declared.Kissed.TheVariants as kissed
 use Rattle.kiss_write.proofs.Held.{text-held}
 
 pub heading-put : {l m₁ m₂ m₃ m₄ m₅ : List ℕ} {e₁ e₂ e₃ e₄ e₅ : ℕ} (k o n r : ℕ) → r ≡ 2 ^ k → length (heading k o n) ≤ length l
@@ -46,16 +42,11 @@ text-put {l} {m₁} {m₂} {m₃} {e₁} {e₂} {e₃} b k o n h a c d =
     subst (λ (x : ℕ). Put l 0 (held_text b k o n) x m₃) z p
 
 module _ (f l : List ℕ) (k o n : ℕ) (e : open_answer f ≡ gives (record { inputs = k; outputs = o; states = n })) where
-  pub unwired : (k ≡ 0) ⊎ (o ≡ 0) → (r : Kissed) → r ≡ kissed.Refused 15 0 → KissWrites f l (meaning r) l
-  unwired w r s = subst (λ (x : Kissed). KissWrites f l (meaning x) l) (sym s) (kiss.KissWrites.fifteen e w)
-
   wired : ¬ (k ≡ 0) → ¬ (o ≡ 0) → Wired (record { inputs = k; outputs = o; states = n })
   wired p q = record { inputs = omega arith; outputs = omega arith }
 
-  pub short : ¬ (k ≡ 0) → ¬ (o ≡ 0) → length l < length (held_text (stream_in f) k o n) → (r : Kissed) → r ≡ kissed.Refused 12 0 → KissWrites f l (meaning r) l
-  short p q h r s =
-      subst (λ (x : Kissed). KissWrites f l (meaning x) l) (sym s)
-      (kiss.KissWrites.twelve e (wired p q) (subst (λ (t : List ℕ). length l < length t) (sym (text-held f k o n e)) h))
+  pub short : ¬ (k ≡ 0) → ¬ (o ≡ 0) → length l < length (held_text (stream_in f) k o n) → KissWrites f l (refuses short_buffer 0) l
+  short p q h = kiss.KissWrites.twelve e (wired p q) (subst (λ (t : List ℕ). length l < length t) (sym (text-held f k o n e)) h)
 
   pub made : {m : List ℕ} (r : ℕ) → ¬ (k ≡ 0) → ¬ (o ≡ 0) → r ≡ length (held_text (stream_in f) k o n) → length (held_text (stream_in f) k o n) ≤ length l
       → Put l 0 (held_text (stream_in f) k o n) (length (held_text (stream_in f) k o n)) m → KissWrites f l (gives r) m

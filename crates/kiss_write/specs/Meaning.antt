@@ -1,15 +1,14 @@
 -- What each case of the answer says, and what C gets.
 -- Assumes nothing.
-use Rattle.std.specs.Prelude.{◌≡◌, List, ℕ}
-use Rattle.file_law.specs.Answer.{Answer, gives, refuses}
+use Rattle.std.specs.Prelude.{◌≡◌, List, ℕ, Result}
+use Rattle.file_law.specs.Answer.{Answer}
 use Rattle.kiss_law.specs.Kiss.{KissWrites, kiss_code}
-use Rattle.kiss_write.specs.declared.Kissed.{Kissed}
-use Rattle.kiss_write.specs.declared.Kissed.TheVariants.{Text, Refused}
+use Rattle.refusals.specs.Number.{answer_of}
+use Rattle.refusals.specs.declared.Refusal.{Refusal}
 
 -- "When an answer is an enum, a definition tells you this paper's number and values"
-abbrev pub meaning : Kissed → Answer ℕ
-meaning (Text length) = gives length
-meaning (Refused number place) = refuses number place
+abbrev pub meaning : Result ℕ (Refusal ℕ) → Answer ℕ
+meaning = answer_of (λ length. length)
 
 -- the number of an answer that is right for what was lent, with the buffer as it is
 pub record WriteCoded (file buffer : List ℕ) (r : ℕ) (after : List ℕ) : Type 0 where

@@ -42,8 +42,8 @@ module _ {b : ℕ → ℕ} {k n state input next : ℕ} (l : Low b k n state inp
   pub high : (next_at b k state input ≡ next → ⊥) → refuses bad_content 0 ≡ move_answer b k o n state input
   high h = out (omega arith)
 
-  pub spare : {number at : ℕ} → refuses number at ≡ stand_answer b k o next → refuses bad_content 0 ≡ move_answer b k o n state input
-  spare e = by_test (ltb (next_at b k state input) n) refl
+  pub spare : {number at : ℕ} → refuses number at ≡ stand_answer b k o next → refuses number at ≡ move_answer b k o n state input
+  spare e = e ∙ sym (content_only b k o next e) ∙ by_test (ltb (next_at b k state input) n) refl
     where
       by_test : (t : Bool) → ltb (next_at b k state input) n ≡ t → refuses bad_content 0 ≡ move_answer b k o n state input
       by_test true t = let h : next_at b k state input < n = ltb-true _ _ t in content_only b k o next e ∙ on (omega arith) (omega arith)

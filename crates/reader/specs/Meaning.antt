@@ -1,11 +1,12 @@
 -- What each case of the answer says in the terms of the table file.
 -- Assumes nothing.
-use Rattle.file_law.specs.Answer.{Answer, gives, refuses}
-use Rattle.file_law.specs.Reading.{Sizes}
-use Rattle.reader.specs.declared.Opened.{Opened}
-use Rattle.reader.specs.declared.Opened.TheVariants.{Sound, Refused}
+use Rattle.std.specs.Prelude.{ℕ, Result}
+use Rattle.file_law.specs.Answer.{Answer}
+use Rattle.file_law.specs.Reading as law
+use Rattle.refusals.specs.Number.{answer_of}
+use Rattle.refusals.specs.declared.Refusal.{Refusal}
+use Rattle.stream.specs.declared.sizes.Sizes.{Sizes}
 
 -- "Every call ends with the answer or with exactly the refusal and place"
-abbrev pub meaning : Opened → Answer Sizes
-meaning (Sound k o n) = gives (record { inputs = k; outputs = o; states = n })
-meaning (Refused number at) = refuses number at
+abbrev pub meaning : Result Sizes (Refusal ℕ) → Answer law.Sizes
+meaning = answer_of (λ z. record { inputs = z.inputs; outputs = z.outputs; states = z.states })

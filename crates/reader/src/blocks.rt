@@ -1,22 +1,21 @@
 // The blocks of a file, each with its number, the total and its check.
-ghost use Rattle.std.specs.Prelude.{◌≡◌, ◌+◌, ◌*◌, ◌≤◌, length};
+ghost use Rattle.std.specs.Prelude.{◌≡◌, ◌+◌, ◌*◌, ◌≤◌, ◌<◌, length, IfSome};
+ghost use Rattle.std.specs.Option.{unwrap_or};
 ghost use Rattle.file_law.specs.Answer.{first_not};
 ghost use Rattle.file_law.specs.Reading.{most_blocks, length_good, number_good, check_good, block_good, block_fault};
+ghost use Rattle.refusals.specs.Number.{number_of};
 
-use stream::{broken, bytes};
+use refusals::Cause;
+use stream::bytes;
 
 // Some whole blocks, and not too many.
 pub fn length_good(n: usize) -> bool
     ensures { result ≡ length_good n }
 {
-    if n < 1 {
-        return false;
-    }
-    if n % 512 != 0 {
-        return false;
-    }
-    n / 512 <= 67
+    1 <= n && n % 512 == 0 && n / 512 <= 67
 }
+
+// That block n lies in the file is asked by each of these, and is no type: a type would be built at each call, and taken apart at once.
 
 // Block n has its number, and the total.
 fn number_good(file: &[u8], total: u32, n: u32) -> bool
@@ -24,10 +23,7 @@ fn number_good(file: &[u8], total: u32, n: u32) -> bool
     ensures { result ≡ number_good file.now total n }
 {
     let start = (512 * n) as usize;
-    if bytes::word(file, start) != n {
-        return false;
-    }
-    bytes::word(file, start + 2) == total
+    bytes::word(file, start) == n && bytes::word(file, start + 2) == total
 }
 
 // .. and its check.
@@ -45,34 +41,25 @@ fn block_good(file: &[u8], total: u32, n: u32) -> bool
     requires { (n ≤ most_blocks) × (512 * n + 512 ≤ length file.now) }
     ensures { result ≡ block_good file.now total n }
 {
-    if !number_good(file, total, n) {
-        return false;
-    }
-    check_good(file, n)
+    number_good(file, total, n) && check_good(file, n)
 }
 
 // What is broken in a block that is not good.
-pub fn fault(file: &[u8], total: u32, n: u32) -> u32
+pub fn fault(file: &[u8], total: u32, n: u32) -> Cause
     requires { (n ≤ most_blocks) × (512 * n + 512 ≤ length file.now) }
-    ensures { result ≡ block_fault file.now total n }
+    ensures { number_of result ≡ block_fault file.now total n }
 {
-    if !number_good(file, total, n) {
-        return broken::BAD_NUMBER;
+    if number_good(file, total, n) {
+        Cause::Check
+    } else {
+        Cause::BlockNumber
     }
-    broken::BAD_CHECK
 }
 
-// The first block that is not good, or `total`.
-pub fn first_bad(file: &[u8], total: u32) -> u32
+// The first block that is not good, if one is not.
+pub fn first_bad(file: &[u8], total: u32) -> Option<u32>
     requires { (total ≤ most_blocks) × (512 * total ≤ length file.now) }
-    ensures { (result ≡ first_not (block_good file.now total) total 0) × (result ≤ total) }
+    ensures { (unwrap_or result total ≡ first_not (block_good file.now total) total 0) × IfSome result (λ n. n < total) }
 {
-    let mut n: u32 = 0;
-    while n < total {
-        if !block_good(file, total, n) {
-            return n;
-        }
-        n += 1;
-    }
-    n
+    (0..total).find(|n| !block_good(file, total, *n))
 }

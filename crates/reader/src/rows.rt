@@ -5,22 +5,56 @@ ghost use Rattle.file_law.specs.Table.{most_outputs};
 ghost use Rattle.file_law.specs.Reading.{most_blocks, stream_in, blocks_for, clear_at, zero_at, nexts_good, rows_good};
 ghost use Rattle.reader.specs.Room.{Room};
 
-use stream::{bytes, sizes};
+use stream::bytes;
+use stream::sizes::{self, Sizes};
 
-// No state has a spare output bit.
-fn all_clear(file: &[u8], k: u32, o: u32, n: u32) -> bool
-    requires { Room file.now k n × (o ≤ most_outputs) }
-    ensures { result ≡ every (clear_at (stream_in file.now) k o) n 0 }
-{
-    let most = sizes::pow2(o);
-    let mut state: u32 = 0;
-    while state < n {
-        if most <= stream::outputs_at(file, k, state) {
-            return false;
-        }
-        state += 1;
+// The rows of a file with the blocks that its sizes call for.
+#[derive(Clone, Copy)]
+pub struct Rows<'a> {
+    pub file: &'a [u8],
+    pub size: Sizes,
+    ghost room: { Room file.now size.inputs size.states },
+    ghost outputs: { size.outputs ≤ most_outputs },
+}
+
+impl Rows<'_> {
+    // No state has a spare output bit.
+    fn all_clear(self) -> bool
+        ensures { result ≡ every (clear_at (stream_in self.entry.file.now) self.entry.size.inputs self.entry.size.outputs) self.entry.size.states 0 }
+    {
+        let most = sizes::pow2(self.size.outputs);
+        (0..self.size.states).all(|s| stream::outputs_at(self.file, self.size.inputs, s) < most)
     }
-    true
+
+    // Each next state of a state is in the table.
+    fn nexts_good(self, state: u32) -> bool
+        requires { state < self.size.states }
+        ensures { result ≡ nexts_good (stream_in self.entry.file.now) self.entry.size.inputs self.entry.size.states state }
+    {
+        let Sizes { inputs, states, .. } = self.size;
+        (0..sizes::pow2(inputs)).all(|i| stream::next_at(self.file, inputs, state, i) < states)
+    }
+
+    // .. and so for every state.
+    fn all_nexts_good(self) -> bool
+        ensures { result ≡ every (nexts_good (stream_in self.entry.file.now) self.entry.size.inputs self.entry.size.states) self.entry.size.states 0 }
+    {
+        (0..self.size.states).all(|state| self.nexts_good(state))
+    }
+
+    // No spare output bit, filling of zeros, next states in the table.
+    pub fn are_good(self) -> bool
+        ensures { result ≡ rows_good (stream_in self.entry.file.now) (blocks_for self.entry.size.inputs self.entry.size.states) self.entry.size.inputs self.entry.size.outputs self.entry.size.states }
+    {
+        let Sizes { inputs, states, .. } = self.size;
+        self.all_clear()
+            && all_zero(
+                self.file,
+                sizes::row_at(inputs, states),
+                sizes::blocks_for(inputs, states),
+            )
+            && self.all_nexts_good()
+    }
 }
 
 // The stream of `total` blocks is zero from byte `from` on.
@@ -28,58 +62,5 @@ fn all_zero(file: &[u8], from: u32, total: u32) -> bool
     requires { (total ≤ most_blocks) × (512 * total ≤ length file.now) }
     ensures { result ≡ every (zero_at (stream_in file.now)) (504 * total - from) from }
 {
-    let end = 504 * total;
-    let mut j = from;
-    while j < end {
-        if bytes::byte(file, stream::place_of(j)) != 0 {
-            return false;
-        }
-        j += 1;
-    }
-    true
-}
-
-// Each next state of a state is in the table.
-fn nexts_good(file: &[u8], k: u32, n: u32, state: u32) -> bool
-    requires { Room file.now k n × (state < n) }
-    ensures { result ≡ nexts_good (stream_in file.now) k n state }
-{
-    let end = sizes::pow2(k);
-    let mut input: u32 = 0;
-    while input < end {
-        if n <= stream::next_at(file, k, state, input) {
-            return false;
-        }
-        input += 1;
-    }
-    true
-}
-
-// .. and so for every state.
-fn all_nexts_good(file: &[u8], k: u32, n: u32) -> bool
-    requires { Room file.now k n }
-    ensures { result ≡ every (nexts_good (stream_in file.now) k n) n 0 }
-{
-    let mut state: u32 = 0;
-    while state < n {
-        if !nexts_good(file, k, n, state) {
-            return false;
-        }
-        state += 1;
-    }
-    true
-}
-
-// No spare output bit, filling of zeros, next states in the table.
-pub fn rows_good(file: &[u8], k: u32, o: u32, n: u32) -> bool
-    requires { Room file.now k n × (o ≤ most_outputs) }
-    ensures { result ≡ rows_good (stream_in file.now) (blocks_for k n) k o n }
-{
-    if !all_clear(file, k, o, n) {
-        return false;
-    }
-    if !all_zero(file, sizes::row_at(k, n), sizes::blocks_for(k, n)) {
-        return false;
-    }
-    all_nexts_good(file, k, n)
+    (from..504 * total).all(|j| bytes::byte(file, stream::place_of(j)) == 0)
 }

@@ -3,13 +3,15 @@
 use mathlib.Core.Bool.{Bool, true, false, not}
 use mathlib.Core.Path.{◌≡◌, refl, sym, ◌∙◌, ap}
 use Prim.Native.Nat.{ℕ, zero, suc, ◌+◌, ◌-◌, ◌<◌, ◌≤◌}
+use native.Mathlib.Decide.{dec_le, dec_lt}
 use native.Mathlib.Omega.{arith}
 use lib.Dec.{eqb}
-use borrow.Author.Tests.{eq-eqb, eqb-true, not-false}
+use borrow.Author.Tests.{lt-ltb, le-ltb, eq-eqb, eqb-true, not-false}
 use Rattle.ll1.proofs.Sets.{clash}
 use Rattle.file_law.specs.Answer.{unless, first_not}
 use Rattle.file_law.proofs.Every.{stops, goes, ends}
-use Rattle.spellings.specs.Search.{opening, like_from}
+use Rattle.std.specs.Prelude.{Some, None}
+use Rattle.spellings.specs.Search.{opening, like_from, found}
 
 pub not_before : (p : ℕ → Bool) (n i : ℕ) → i ≤ first_not p n i
 unfolding first_not
@@ -94,3 +96,27 @@ module _ (p : ℕ → Bool) (c low last : ℕ) (skip : (j : ℕ) → low ≤ j �
       pub along_falls : last - r < last - k
       unfolding like_from
       along_falls = omega (arith, q, not_before (λ j. not (eqb (opening j) (opening k))) (last - (k + 1)) (k + 1))
+
+-- ---- what a search came to
+
+module _ {end k n : ℕ} where
+  pub found_below : k ≡ n → k < end → Some k ≡ found end n
+  found_below q h = let g : n < end = omega arith in rw (lt-ltb n end g, q)
+
+  pub found_number : Some k ≡ found end n → (k < end) × (k ≡ n)
+  found_number q = go (dec_lt n end) q
+    where
+      go : Dec (n < end) → Some k ≡ found end n → (k < end) × (k ≡ n)
+      go (yes h) q = let e : k ≡ n = cc (rw (lt-ltb n end h) at q) in (omega arith, e)
+      go (no h) q = let e : end ≤ n = omega arith in cc (rw (le-ltb n end e) at q)
+
+module _ {end n : ℕ} where
+  pub found_past : end ≤ n → None ≡ found end n
+  found_past h = rw (le-ltb n end h)
+
+  pub found_not : None ≡ found end n → end ≤ n
+  found_not q = go (dec_le end n) q
+    where
+      go : Dec (end ≤ n) → None ≡ found end n → end ≤ n
+      go (yes h) q = h
+      go (no h) q = let e : n < end = omega arith in cc (rw (lt-ltb n end e) at q)

@@ -11,20 +11,21 @@ use lib.Dec.{eqb, ltb}
 use lib.ListN.{length, get_or, drop}
 use lib.Seq.{drop-cons}
 use borrow.Author.Tests.{lt-ltb, le-ltb, ltb-true, eq-eqb, ne_eqb, eqb-true}
-use Rattle.file_law.specs.Answer.{every}
+use Rattle.std.specs.Prelude.{Some, None}
+use Rattle.file_law.specs.Answer.{every, first_not}
 use Rattle.language.specs.Words.{bytes, signs, reserved, same}
 use Rattle.language.specs.Scan.{begins}
 use Rattle.language.proofs.ScanLaws.{first_byte}
 use Rattle.spellings.specs.Spelled.{spellings, sign_count, spelling_count, spelling}
 use Rattle.spellings.specs.Part.{part}
-use Rattle.spellings.specs.Search.{Table, opening, like_from, long_signs, sign_next, second, reserved_next, size, fits_at, misses_at}
+use Rattle.spellings.specs.Search.{Table, opening, like_from, long_signs, sign_next, second, reserved_next, size, fits_at, misses_at, found}
 use Rattle.spellings.proofs.Parts.{part_length, opens}
 use Rattle.spellings.proofs.Same.{same-begins, same_not, same_true}
 use Rattle.spellings.proofs.Tested.{each}
-use Rattle.spellings.proofs.Chain.{Along, along_here, along_over}
+use Rattle.spellings.proofs.Chain.{Along, along_start, along_here, along_over, along_on, along_falls, found_below, found_past}
 
 -- what a test of spelling k answered says of missing it
-pub misses : (s : List ℕ) (at e k : ℕ) {b c : Bool} → b ≡ fits_at s at e k → b ≡ c → misses_at s at e k ≡ not c
+misses : (s : List ℕ) (at e k : ℕ) {b c : Bool} → b ≡ fits_at s at e k → b ≡ c → misses_at s at e k ≡ not c
 misses s at e k d f = ap not (sym d ∙ f)
 
 -- the row's bytes from one start to the next are the spelling
@@ -137,10 +138,65 @@ sign_over s at h {n} {k} x l = go (dec_lt k sign_count)
 
 -- ---- the next spelling that begins alike
 
-pub next-sign : (k : ℕ) → sign_next k ≡ like_from (opening k) sign_count (k + 1)
+next-sign : (k : ℕ) → sign_next k ≡ like_from (opening k) sign_count (k + 1)
 unfolding sign_next
 next-sign k = refl
 
-pub next-reserved : (k : ℕ) → sign_count ≤ k → reserved_next (k - sign_count) ≡ like_from (opening k) spelling_count (k + 1)
+next-reserved : (k : ℕ) → sign_count ≤ k → reserved_next (k - sign_count) ≡ like_from (opening k) spelling_count (k + 1)
 unfolding reserved_next
 next-reserved k h = ap (λ (j : ℕ). like_from (opening j) spelling_count (j + 1)) (omega arith)
+
+-- ---- the search for a sign at a place
+
+abbrev pub sign_number : List ℕ → ℕ → ℕ
+sign_number s at = first_not (misses_at s at at) (sign_count - 0) 0
+
+abbrev pub SignAlong : List ℕ → ℕ → ℕ → Type 0
+SignAlong s at k = Along (misses_at s at at) (get_or s at 0) 0 sign_count (sign_number s at) k
+
+module _ (s : List ℕ) (at : ℕ) (h : at < length s) {k : ℕ} where
+  pub sign_start : k ≡ like_from (get_or s at 0) sign_count 0 → SignAlong s at k
+  sign_start q = along_start (misses_at s at at) (get_or s at 0) 0 sign_count (other_sign s at h) k (omega arith) q
+
+  module _ (x : SignAlong s at k) where
+    pub sign_here : {b : Bool} → k < sign_count → b ≡ fits_at s at at k → b ≡ true → Some k ≡ found sign_count (sign_number s at)
+    sign_here l q e = found_below (along_here (misses_at s at at) (get_or s at 0) 0 sign_count (other_sign s at h) x l (misses s at at k q e)) l
+
+    module _ (l : k < sign_count) {j r : ℕ} (q : r ≡ j) (t : j ≡ sign_next k) where
+      next : r ≡ like_from (opening k) sign_count (k + 1)
+      next = q ∙ t ∙ next-sign k
+
+      pub sign_on : {b : Bool} → b ≡ fits_at s at at k → b ≡ false → SignAlong s at r
+      sign_on d e = along_on (misses_at s at at) (get_or s at 0) 0 sign_count (other_sign s at h) x r l next (misses s at at k d e)
+
+      pub sign_falls : sign_count - r < sign_count - k
+      sign_falls = along_falls (misses_at s at at) (get_or s at 0) 0 sign_count (other_sign s at h) x r l next
+
+-- ---- .. and for the reserved word that is the run from there to e
+
+abbrev pub word_number : List ℕ → ℕ → ℕ → ℕ
+word_number s at e = first_not (misses_at s at e) (spelling_count - sign_count) sign_count
+
+abbrev pub WordAlong : List ℕ → ℕ → ℕ → ℕ → Type 0
+WordAlong s at e k = Along (misses_at s at e) (get_or s at 0) sign_count spelling_count (word_number s at e) k
+
+module _ (s : List ℕ) (at e : ℕ) (h : at < length s) (g : at < e) {k : ℕ} where
+  pub word_start : k ≡ like_from (get_or s at 0) spelling_count sign_count → WordAlong s at e k
+  word_start q = along_start (misses_at s at e) (get_or s at 0) sign_count spelling_count (other_word s at h e g) k (omega arith) q
+
+  module _ (x : WordAlong s at e k) where
+    pub word_here : {b : Bool} → k < spelling_count → b ≡ fits_at s at e k → b ≡ true → Some k ≡ found spelling_count (word_number s at e)
+    word_here l q f = found_below (along_here (misses_at s at e) (get_or s at 0) sign_count spelling_count (other_word s at h e g) x l (misses s at e k q f)) l
+
+    pub word_over : spelling_count ≤ k → None ≡ found spelling_count (word_number s at e)
+    word_over l = found_past (let q = along_over (misses_at s at e) (get_or s at 0) sign_count spelling_count (other_word s at h e g) x l in omega arith)
+
+    module _ (l : k < spelling_count) {j r : ℕ} (q : r ≡ j) (t : j ≡ reserved_next (k - sign_count)) where
+      after : r ≡ like_from (opening k) spelling_count (k + 1)
+      after = q ∙ t ∙ next-reserved k x.above
+
+      pub word_on : {b : Bool} → b ≡ fits_at s at e k → b ≡ false → WordAlong s at e r
+      word_on d f = along_on (misses_at s at e) (get_or s at 0) sign_count spelling_count (other_word s at h e g) x r l after (misses s at e k d f)
+
+      pub word_falls : spelling_count - r < spelling_count - k
+      word_falls = along_falls (misses_at s at e) (get_or s at 0) sign_count spelling_count (other_word s at h e g) x r l after

@@ -1,14 +1,17 @@
 -- The laws of parts of a text: their bytes, and whether one stands at a place.
 -- Assumes nothing.
-use mathlib.Core.Bool.{true, false}
-use mathlib.Core.Path.{◌≡◌, sym, ◌∙◌}
+use mathlib.Core.Bool.{Bool, ◌&&◌}
+use mathlib.Core.Path.{◌≡◌, refl, sym, ◌∙◌, ap}
 use mathlib.Core.List.{List, [], ◌∷◌}
 use Prim.Native.Nat.{ℕ, zero, suc, ◌+◌, ◌-◌, ◌<◌, ◌≤◌, min}
+use native.Mathlib.Decide.{dec_le}
 use native.Mathlib.Numerals.{add-one}
 use native.Mathlib.Omega.{arith}
-use lib.ListN.{length, get_or, drop, length-take, length-drop}
+use lib.Dec.{eqb}
+use lib.ListN.{length, get_or, take, drop, length-take, length-drop}
 use lib.Seq.{drop-cons, drop-nil, take-nil, get_or-take}
-use borrow.Author.Tests.{eq-eqb, ne_eqb}
+use Rattle.std.specs.Cmp.Lexicographic.{pointwise}
+use Rattle.std.proofs.lemmas.List.{take_min}
 use Rattle.language.specs.Scan.{begins}
 use Rattle.language.proofs.ScanLaws.{first_byte}
 use Rattle.spellings.specs.Part.{part}
@@ -41,25 +44,35 @@ pub opens : (s : List ℕ) (at : ℕ) → at < length s → (e : ℕ) → at < e
 unfolding part
 opens s at h e g = get_or-take (e - at) (drop at s) 0 0 (omega arith) ∙ first_byte s at
 
+-- the part of a text that is cut to its length
+pub part_cut : (s : List ℕ) (a e : ℕ) → take (min e (length s) - min a (min e (length s))) (drop (min a (min e (length s))) s) ≡ part s a e
+unfolding part
+part_cut s a e = go (dec_le a (min e (length s)))
+  where
+    none : ¬ (a ≤ min e (length s)) → Dec (e ≤ a) → part s a e ≡ []
+    none h (yes k) = part_none s a e k
+    none h (no k) = part-past s a e (omega arith)
+
+    go : Dec (a ≤ min e (length s)) → take (min e (length s) - min a (min e (length s))) (drop (min a (min e (length s))) s) ≡ part s a e
+    go (yes h) =
+        let i : min a (min e (length s)) ≡ a = omega arith in
+        let n : min e (length s) - a ≡ min (e - a) (length (drop a s)) = omega (arith, length-drop a s) in
+        rw (i, n) (take_min (e - a) (drop a s))
+    go (no h) =
+        let n : min e (length s) - min a (min e (length s)) ≡ 0 = omega arith in
+        rw n (sym (none h (dec_le e a)))
+
 -- ---- a part stands at a place
 
-module _ (s : List ℕ) (i : ℕ) (t : List ℕ) (j f : ℕ) where
-  pub stands_on : j < f → j < length t → i < length s → get_or s i 0 ≡ get_or t j 0 → begins (drop (i + 1) s) (part t (j + 1) f) ≡ begins (drop i s) (part t j f)
-  unfolding begins
-  stands_on h k g e = rw (part-cons t j f h k, drop-cons s i 0 g, add-one i) (rw (eq-eqb (get_or t j 0) (get_or s i 0) (sym e)))
+pub starts-begins : (l w : List ℕ) → pointwise eqb w (take (length w) l) ≡ begins l w
+unfolding begins
+starts-begins l [] = refl
+starts-begins [] (x ∷ w) = refl
+starts-begins (y ∷ l) (x ∷ w) = ap (λ (b : Bool). eqb x y && b) (starts-begins l w)
 
-  pub stands_not : j < f → j < length t → i < length s → ¬ (get_or s i 0 ≡ get_or t j 0) → begins (drop i s) (part t j f) ≡ false
-  unfolding begins
-  stands_not h k g e = rw (part-cons t j f h k, drop-cons s i 0 g) (rw (ne_eqb (get_or t j 0) (get_or s i 0) (λ x. e (sym x))))
-
-  pub stands-short : j < f → j < length t → length s ≤ i → begins (drop i s) (part t j f) ≡ false
-  unfolding begins
-  stands-short h k g = rw (part-cons t j f h k, drop_past s i g)
-
-  pub stands-past : length t ≤ j → begins (drop i s) (part t j f) ≡ true
-  unfolding begins
-  stands-past h = rw (part-past t j f h)
-
-  pub stands_over : f ≤ j → begins (drop i s) (part t j f) ≡ true
-  unfolding begins
-  stands_over h = rw (part_none t j f h)
+pub drop_cut : (i : ℕ) (l : List ℕ) → drop (min i (length l)) l ≡ drop i l
+drop_cut i l = go (dec_le i (length l))
+  where
+    go : Dec (i ≤ length l) → drop (min i (length l)) l ≡ drop i l
+    go (yes h) = ap (λ (j : ℕ). drop j l) (omega arith)
+    go (no h) = drop_past l (min i (length l)) (omega arith) ∙ sym (drop_past l i (omega arith))

@@ -3,17 +3,16 @@
 use mathlib.Core.Bool.{Bool, true, false, ◌&&◌}
 use mathlib.Core.Path.{◌≡◌, refl, sym, ◌∙◌, ap, ap₂}
 use mathlib.Core.List.{List, [], ◌∷◌}
-use Prim.Native.Nat.{ℕ, zero, suc, ◌-◌, min}
+use Prim.Native.Nat.{ℕ, zero, suc}
 use native.Mathlib.Decide.{ℕ_discrete}
 use native.Mathlib.Omega.{arith}
-use lib.ListN.{length, take, drop}
+use lib.ListN.{length, take}
 use lib.Dec.{eqb}
 use borrow.Author.Tests.{eq-eqb, ne_eqb, eqb-true}
+use Rattle.std.specs.Cmp.Lexicographic.{pointwise}
 use Rattle.ll1.proofs.Sets.{clash}
 use Rattle.language.specs.Words.{same}
 use Rattle.language.specs.Scan.{begins}
-use Rattle.spellings.specs.Part.{part}
-use Rattle.spellings.proofs.Parts.{part_length}
 
 pub same_self : (w : List ℕ) → same w w ≡ true
 unfolding same
@@ -60,14 +59,10 @@ same_not (x ∷ v) (y ∷ w) h = go (eqb x y) (same_not v w (λ e. h (ap suc e))
     go true q = q
     go false q = refl
 
--- two parts of a text
-module _ (s : List ℕ) (a b c d : ℕ) where
-  pub parts_differ : ¬ (min (b - a) (length s - a) ≡ min (d - c) (length s - c)) → same (part s a b) (part s c d) ≡ false
-  parts_differ h = same_not (part s a b) (part s c d) (λ e. h (sym (part_length s a b) ∙ e ∙ part_length s c d))
-
-  pub parts_stand : {r : Bool} → r ≡ begins (drop a s) (part s c d) → min (b - a) (length s - a) ≡ min (d - c) (length s - c) → r ≡ same (part s a b) (part s c d)
-  unfolding part
-  parts_stand q h = q ∙ sym (same-begins (b - a) (drop a s) (part s c d) long)
-    where
-      long : length (take (b - a) (drop a s)) ≡ length (part s c d)
-      long = part_length s a b ∙ h ∙ sym (part_length s c d)
+-- the library compares so
+pub same-pointwise : (v w : List ℕ) → pointwise eqb v w ≡ same v w
+unfolding same
+same-pointwise [] [] = refl
+same-pointwise [] (y ∷ w) = refl
+same-pointwise (x ∷ v) [] = refl
+same-pointwise (x ∷ v) (y ∷ w) = ap (λ (b : Bool). eqb x y && b) (same-pointwise v w)

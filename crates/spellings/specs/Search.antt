@@ -1,6 +1,6 @@
 -- The table of spellings and the search in it.
 -- Assumes nothing.
-use Rattle.std.specs.Prelude.{◌≡◌, Bool, not, cond, List, ℕ, ◌+◌, ◌-◌, ◌<◌, length, get_or, drop, eqb, ltb}
+use Rattle.std.specs.Prelude.{◌≡◌, Bool, not, cond, Option, Some, None, List, ℕ, ◌+◌, ◌-◌, ◌<◌, length, get_or, drop, eqb, ltb}
 use Rattle.file_law.specs.Answer.{first_not}
 use Rattle.language.specs.Words.{same}
 use Rattle.language.specs.Scan.{begins}
@@ -57,3 +57,7 @@ fits_at s at e k = cond (ltb k sign_count) (begins (drop at s) (spelling k)) (sa
 -- .. does not
 abbrev pub misses_at : List ℕ → ℕ → ℕ → ℕ → Bool
 misses_at s at e k = not (fits_at s at e k)
+
+-- the number that a search came to, if it is below its end
+abbrev pub found : ℕ → ℕ → Option ℕ
+found end k = cond (ltb k end) (Some k) None

@@ -1,4 +1,4 @@
-// Bytes of a text: the one at a place, and whether those of another text stand there.
+// Bytes of a text: the one at a place, those from a place to another, and whether those of another text stand at a place.
 ghost use Rattle.std.specs.Prelude.{◌≡◌, get_or, drop};
 ghost use Rattle.language.specs.Scan.{begins};
 ghost use Rattle.spellings.specs.Part.{part};
@@ -7,37 +7,21 @@ ghost use Rattle.spellings.specs.Part.{part};
 pub fn byte_at(s: &[u8], i: usize) -> u8
     ensures { result ≡ get_or s.now i 0 }
 {
-    if i < s.len() {
-        return s[i];
-    }
-    0
+    s.get(i).copied().unwrap_or(0)
 }
 
-// A byte of a table as an index.
-pub fn wide(x: u8) -> usize
-    ensures { result ≡ x }
+// The bytes of s from a place to another: for any numbers.
+pub fn part(s: &[u8], from: usize, to: usize) -> &[u8]
+    ensures { result.now ≡ part s.now from to }
 {
-    x as usize
+    let end = to.min(s.len());
+    &s[from.min(end)..end]
 }
 
-// Whether s goes on at `at` with the bytes of t from b to f.
+// Whether s goes on at `at` with the bytes of t from b to f: for any numbers.
 pub fn stands(s: &[u8], at: usize, t: &[u8], b: usize, f: usize) -> bool
     ensures { result ≡ begins (drop at s.now) (part t.now b f) }
 {
-    let mut i = at;
-    let mut j = b;
-    while j < f {
-        if t.len() <= j {
-            return true;
-        }
-        if s.len() <= i {
-            return false;
-        }
-        if s[i] != t[j] {
-            return false;
-        }
-        i += 1;
-        j += 1;
-    }
-    true
+    let rest = &s[at.min(s.len())..];
+    rest.starts_with(part(t, b, f))
 }

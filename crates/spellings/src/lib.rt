@@ -5,7 +5,7 @@ ghost use Rattle.std.specs.Prelude.{◌≡◌, ◌-◌, ◌<◌, ◌≤◌, leng
 ghost use Rattle.file_law.specs.Answer.{first_not};
 ghost use Rattle.language.specs.Scan.{begins};
 ghost use Rattle.spellings.specs.Spelled.{sign_count, spelling_count, spelling};
-ghost use Rattle.spellings.specs.Search.{Table, Lists, opening, like_from, FirstSigns, long_signs, sign_next, second, reserved_by, reserved_next, size, fits_at, misses_at};
+ghost use Rattle.spellings.specs.Search.{Table, Lists, opening, like_from, FirstSigns, long_signs, sign_next, second, reserved_by, reserved_next, size, fits_at, misses_at, found};
 
 pub mod bytes;
 mod data;
@@ -16,30 +16,38 @@ pub const SIGNS: usize = 24;
 // How many there are, with the reserved words.
 pub const SPELLINGS: usize = 61;
 
+// A link is a byte of a table (fixed memory): the next spelling's number, and SIGNS or SPELLINGS where the links end, as `like_from` has it.
+
+// The number that links lead to, if they do not end there.
+fn found(k: usize, end: usize) -> Option<usize>
+    ensures { result ≡ found end k }
+{
+    (k < end).then_some(k)
+}
+
 // The first sign that begins with a byte, by the table of the bytes from `low` on.
 fn sign_in(table: &[u8], low: u8, c: u8) -> usize
     requires { FirstSigns low table.now × (low ≤ c) × (c - low < length table.now) }
     ensures { result ≡ like_from c sign_count 0 }
 {
-    bytes::wide(table[(c - low) as usize])
+    usize::from(table[usize::from(c - low)])
 }
 
-// The first sign that begins with a byte; SIGNS where none does. Of the two tables the one for most signs is the smaller.
+// The first sign that begins with a byte. Of the two tables the one for most signs is the smaller.
 fn first_sign(c: u8) -> usize
     ensures { result ≡ like_from c sign_count 0 }
 {
-    if c < 32 {
-        return SIGNS;
+    match c {
+        32..=63 => {
+            let low = data::LOW_SIGNS;
+            sign_in(&low, 32, c)
+        }
+        64..=127 => {
+            let high = data::HIGH_SIGNS;
+            sign_in(&high, 64, c)
+        }
+        _ => SIGNS,
     }
-    if c < 64 {
-        let low = data::LOW_SIGNS;
-        return sign_in(&low, 32, c);
-    }
-    if c < 128 {
-        let high = data::HIGH_SIGNS;
-        return sign_in(&high, 64, c);
-    }
-    SIGNS
 }
 
 // Whether sign k stands at `at`, where its first byte does: it has one byte or two.
@@ -48,10 +56,7 @@ fn sign_fits(seconds: &[u8; 10], s: &[u8], at: usize, k: usize) -> bool
     ensures { result ≡ fits_at s.now at at k }
 {
     let d = seconds[k];
-    if d == 0 {
-        return true;
-    }
-    bytes::byte_at(s, at + 1) == d
+    d == 0 || bytes::byte_at(s, at + 1) == d
 }
 
 // How many bytes sign k has.
@@ -59,10 +64,7 @@ fn length_in(seconds: &[u8; 10], k: usize) -> usize
     requires { Lists second long_signs seconds.now × (k < long_signs) }
     ensures { result ≡ length (spelling k) }
 {
-    if seconds[k] == 0 {
-        return 1;
-    }
-    2
+    if seconds[k] == 0 { 1 } else { 2 }
 }
 
 pub fn sign_length(k: usize) -> usize
@@ -76,47 +78,44 @@ pub fn sign_length(k: usize) -> usize
     length_in(&seconds, k)
 }
 
-// The number of the first sign that stands at `at`, from sign f on, the first that begins with the byte there; SIGNS where none does.
-fn sign_from(next: &[u8; 10], seconds: &[u8; 10], s: &[u8], at: usize, f: usize) -> usize
+// The number of the first sign that stands at `at`, from sign f on, the first that begins with the byte there.
+fn sign_from(next: &[u8; 10], seconds: &[u8; 10], s: &[u8], at: usize, f: usize) -> Option<usize>
     requires { Lists sign_next long_signs next.now × Lists second long_signs seconds.now × (at < length s.now) × (f ≡ like_from (get_or s.now at 0) sign_count 0) }
-    ensures { result ≡ first_not (misses_at s.now at at) (sign_count - 0) 0 }
+    ensures { result ≡ found sign_count (first_not (misses_at s.now at at) (sign_count - 0) 0) }
 {
     let mut k = f;
     while k < data::LONG_SIGNS {
         if sign_fits(seconds, s, at, k) {
-            return k;
+            return Some(k);
         }
-        k = bytes::wide(next[k]);
+        k = usize::from(next[k]);
     }
-    k
+    found(k, SIGNS)
 }
 
-// The number of the first sign that stands at `at`; SIGNS where none does.
-pub fn sign(s: &[u8], at: usize) -> usize
+// The number of the first sign that stands at `at`.
+pub fn sign(s: &[u8], at: usize) -> Option<usize>
     requires { at < length s.now }
-    ensures { result ≡ first_not (misses_at s.now at at) (sign_count - 0) 0 }
+    ensures { result ≡ found sign_count (first_not (misses_at s.now at at) (sign_count - 0) 0) }
 {
     let f = first_sign(s[at]);
     if f >= data::LONG_SIGNS {
-        return f;
+        return found(f, SIGNS);
     }
     let next = data::NEXT_SIGN;
     let seconds = data::SECONDS;
     sign_from(&next, &seconds, s, at, f)
 }
 
-// The first reserved word that begins with a byte; SPELLINGS where none does.
+// The first reserved word that begins with a byte.
 fn first_reserved(first: &[u8; 26], c: u8) -> usize
     requires { Lists reserved_by 26 first.now }
     ensures { result ≡ like_from c spelling_count sign_count }
 {
-    if c < b'a' {
-        return SPELLINGS;
+    match c {
+        b'a'..=b'z' => usize::from(first[usize::from(c - b'a')]),
+        _ => SPELLINGS,
     }
-    if c <= b'z' {
-        return bytes::wide(first[(c - b'a') as usize]);
-    }
-    SPELLINGS
 }
 
 // Whether the text goes on with spelling k.
@@ -124,8 +123,8 @@ fn stands_in(row: &[u8], starts: &[u8; 62], s: &[u8], at: usize, k: usize) -> bo
     requires { Table row.now starts.now × (k < spelling_count) }
     ensures { result ≡ begins (drop at s.now) (spelling k) }
 {
-    let b = bytes::wide(starts[k]);
-    let f = bytes::wide(starts[k + 1]);
+    let b = usize::from(starts[k]);
+    let f = usize::from(starts[k + 1]);
     bytes::stands(s, at, row, b, f)
 }
 
@@ -144,13 +143,10 @@ fn is_reserved(sizes: &[u8; 37], s: &[u8], at: usize, e: usize, k: usize) -> boo
     requires { Lists size 37 sizes.now × (at ≤ e) × (e ≤ length s.now) × (sign_count ≤ k) × (k < spelling_count) }
     ensures { result ≡ fits_at s.now at e k }
 {
-    if bytes::wide(sizes[k - SIGNS]) != e - at {
-        return false;
-    }
-    stands(s, at, k)
+    usize::from(sizes[k - SIGNS]) == e - at && stands(s, at, k)
 }
 
-// The number of the reserved word that is the run from `at` to e, from word f on, the first that begins as the run does; SPELLINGS where none is.
+// The number of the reserved word that is the run from `at` to e, from word f on, the first that begins as the run does.
 fn reserved_from(
     next: &[u8; 37],
     sizes: &[u8; 37],
@@ -158,29 +154,29 @@ fn reserved_from(
     at: usize,
     e: usize,
     f: usize,
-) -> usize
+) -> Option<usize>
     requires { Lists reserved_next 37 next.now × Lists size 37 sizes.now × (at < e) × (e ≤ length s.now) × (f ≡ like_from (get_or s.now at 0) spelling_count sign_count) }
-    ensures { result ≡ first_not (misses_at s.now at e) (spelling_count - sign_count) sign_count }
+    ensures { result ≡ found spelling_count (first_not (misses_at s.now at e) (spelling_count - sign_count) sign_count) }
 {
     let mut k = f;
     while k < SPELLINGS {
         if is_reserved(sizes, s, at, e, k) {
-            return k;
+            return Some(k);
         }
-        k = bytes::wide(next[k - SIGNS]);
+        k = usize::from(next[k - SIGNS]);
     }
-    k
+    None
 }
 
-// The number of the reserved word that is the run from `at` to e; SPELLINGS where none is.
-pub fn reserved(s: &[u8], at: usize, e: usize) -> usize
+// The number of the reserved word that is the run from `at` to e.
+pub fn reserved(s: &[u8], at: usize, e: usize) -> Option<usize>
     requires { (at < e) × (e ≤ length s.now) }
-    ensures { result ≡ first_not (misses_at s.now at e) (spelling_count - sign_count) sign_count }
+    ensures { result ≡ found spelling_count (first_not (misses_at s.now at e) (spelling_count - sign_count) sign_count) }
 {
     let first = data::FIRST_RESERVED;
     let f = first_reserved(&first, s[at]);
     if f == SPELLINGS {
-        return f;
+        return None;
     }
     let next = data::NEXT_RESERVED;
     let sizes = data::SIZES;

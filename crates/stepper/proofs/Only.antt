@@ -1,23 +1,28 @@
 -- No second answer satisfies a promise of the stepper: two answers with one meaning are one.
 -- Assumes nothing.
-use mathlib.Core.Path.{◌≡◌, ap, ap₂}
+use mathlib.Core.Path.{◌≡◌, sym, ap}
 use Prim.Native.Nat.{ℕ}
-use native.Mathlib.Omega.{arith}
 use mathlib.Core.List.{List}
+use Rattle.std.proofs.Common.{Result, Ok, Err}
 use Rattle.file_law.specs.Table.{Running}
 use Rattle.file_law.specs.Stepping.{step_answer, outputs_answer, start_answer}
-use Rattle.file_law.proofs.Answers.{same}
+use Rattle.file_law.proofs.Answers.{never, same}
+use Rattle.refusals.proofs.Only.{same_refusal}
+use Rattle.refusals.specs.Number.{number_of}
+use Rattle.refusals.specs.declared.Refusal.{Refusal}
 use Rattle.moves.specs.Meaning.{meaning}
 use Rattle.moves.specs.declared.Stands.{Stands}
-use Rattle.moves.specs.declared.Stands.TheVariants.{At, Refused}
 
-pub one : (a b : Stands) → meaning a ≡ meaning b → a ≡ b
-one (At s o) (At s' o') e = ap₂ At (ap (λ (r : Running). r.state) (same e)) (ap (λ (r : Running). r.outputs) (same e))
-one (At s o) (Refused x p) e = let z : ◌≡◌ {A = ℕ} 0 1 = cc in absurd (omega arith)
-one (Refused x p) (At s o) e = let z : ◌≡◌ {A = ℕ} 0 1 = cc in absurd (omega arith)
-one (Refused x p) (Refused x' p') e = cc
+pub one : (a b : Result Stands (Refusal ℕ)) → meaning a ≡ meaning b → a ≡ b
+one (Ok s) (Ok s') e = ap (λ (r : Running). Ok (record { state = r.state; outputs = r.outputs })) (same e)
+one (Ok s) (Err r) e = absurd (never e)
+one (Err r) (Ok s) e = absurd (never (sym e))
+one (Err r) (Err r') e =
+    let n : number_of r.cause ≡ number_of r'.cause = cc in
+    let p : r.place ≡ r'.place = cc in
+    ap (λ x. Err x) (same_refusal r r' n p)
 
-module _ (f : List ℕ) (a b : Stands) where
+module _ (f : List ℕ) (a b : Result Stands (Refusal ℕ)) where
   pub step_only : (state input : ℕ) → meaning a ≡ step_answer f state input → meaning b ≡ step_answer f state input → a ≡ b
   step_only state input p q = one a b (cc)
 

@@ -5,7 +5,6 @@ ghost use Rattle.std.specs.Prelude.{◌≡◌, ◌+◌, ◌*◌, ◌/◌, ◌%�
 ghost use Rattle.file_law.specs.Table.{most_inputs, most_states};
 ghost use Rattle.file_law.specs.Reading.{place, stream_in, row_at, outputs_at, next_at};
 
-pub mod broken;
 pub mod bytes;
 pub mod sizes;
 

@@ -3,19 +3,21 @@ ghost use Rattle.std.specs.Prelude.{◌≡◌, ◌^◌, ◌≤◌};
 ghost use Rattle.file_law.specs.Table.{most_inputs, most_outputs, most_states};
 ghost use Rattle.file_law.specs.Reading.{most_blocks, sizes_good, blocks_for, row_at};
 
-pub fn sizes_good(k: u32, o: u32, n: u32) -> bool
-    ensures { result ≡ sizes_good k o n }
-{
-    if 6 < k {
-        return false;
+// The sizes of a file.
+#[derive(Clone, Copy, Debug, PartialEq, Eq)]
+pub struct Sizes {
+    pub inputs: u32,
+    pub outputs: u32,
+    pub states: u32,
+}
+
+impl Sizes {
+    // Whether each is in its range.
+    pub fn are_good(self) -> bool
+        ensures { result ≡ sizes_good self.inputs self.outputs self.states }
+    {
+        self.inputs <= 6 && self.outputs <= 16 && 1 <= self.states && self.states <= 256
     }
-    if 16 < o {
-        return false;
-    }
-    if n < 1 {
-        return false;
-    }
-    n <= 256
 }
 
 pub fn pow2(k: u32) -> u32

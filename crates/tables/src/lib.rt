@@ -1,8 +1,8 @@
 // The two tables of the grammar: its rows, and where the row begins that a word calls for.
 #![tactic(auto)]
 
-ghost use Rattle.std.specs.Prelude.{◌≡◌, replicate};
-ghost use Rattle.grammar_law.specs.Tables.{cell_count, rows};
+ghost use Rattle.std.specs.Prelude.{◌≡◌};
+ghost use Rattle.grammar_law.specs.Tables.{rows};
 ghost use Rattle.grammar_law.specs.Starts.{starts};
 ghost use Rattle.tables.specs.Laying.{Called, Filled};
 
@@ -20,29 +20,13 @@ pub type Starts = [u16; CELLS];
 
 type Calls = [u16; calls::COUNT];
 
-// A table of starts in which no word calls for a row.
-fn empty() -> Starts
-    ensures { result ≡ replicate cell_count 0 }
-{
-    [0u16; CELLS]
-}
-
-fn wide(x: u16) -> usize
-    ensures { result ≡ x }
-{
-    x as usize
-}
-
 // Puts in where each row begins that a word calls for.
 fn fill(t: &mut Starts, called: &Calls, places: &Calls)
     requires { Called t.old called.now places.now }
     ensures { Filled called.now places.now t.old t.new }
 {
-    let mut i: usize = 0;
-    while i < calls::COUNT {
-        let at = wide(called[i]);
-        t[at] = places[i];
-        i += 1;
+    for (at, place) in called.iter().zip(places) {
+        t[usize::from(*at)] = *place;
     }
 }
 
@@ -59,7 +43,7 @@ pub fn all_starts() -> Starts
 {
     let called = calls::CALLED;
     let places = calls::PLACES;
-    let mut t = empty();
+    let mut t = [0u16; CELLS];
     fill(&mut t, &called, &places);
     t
 }

@@ -17,8 +17,7 @@ use Rattle.language.proofs.Cutting.{words_step}
 use Rattle.language.proofs.ScanLaws.{run_inside}
 use Rattle.words.specs.Meaning.{stop_of}
 use Rattle.words.specs.Met.{Met, ends, halts, meets, ended}
-use Rattle.words.specs.declared.Stop.{Stop}
-use Rattle.words.specs.declared.Stop.TheVariants.{At, None}
+use Rattle.std.specs.Prelude.{Option, Some, None}
 
 -- ---- a word that is found lies ahead
 
@@ -54,7 +53,7 @@ ahead s from w h e =
 
 record Going (s : List ℕ) (from : ℕ) : Type 0 where
   pub some : List Word
-  pub end : Stop
+  pub end : Option ℕ
   pub met : Met s from some end
 
 going : (most : ℕ) (s : List ℕ) (from : ℕ) → from ≤ length s → length s < most + from → Going s from
@@ -63,7 +62,7 @@ going (suc most) s from h k = go (next_word s from) refl (λ w x. going most s (
   where
     go : (q : Scan.Next) → next_word s from ≡ q → ((w : Word) → (from < behind w) × (behind w ≤ length s) → Going s (behind w)) → Going s from
     go (found w) e more = let g = more w (ahead s from w h e) in record { some = w ∷ g.some; end = g.end; met = meets w e g.met }
-    go (stops p) e more = record { some = []; end = At p; met = halts p e }
+    go (stops p) e more = record { some = []; end = Some p; met = halts p e }
     go over e more = record { some = []; end = None; met = ends e }
 
 all : (s : List ℕ) → Going s 0
@@ -72,50 +71,50 @@ all s = going (suc (length s)) s 0 (omega arith) (omega arith)
 pub words_met : List ℕ → List Word
 words_met s = (all s).some
 
-pub end_met : List ℕ → Stop
+pub end_met : List ℕ → Option ℕ
 end_met s = (all s).end
 
 pub is_met : (s : List ℕ) → Met s 0 (words_met s) (end_met s)
 unfolding words_met end_met
 is_met s = (all s).met
 
-pub end_is : (n : Stop) (ws : List Word) → stop_of (ended n ws) ≡ n
+pub end_is : (n : Option ℕ) (ws : List Word) → stop_of (ended n ws) ≡ n
 end_is None ws = refl
-end_is (At e) ws = refl
+end_is (Some e) ws = refl
 
 -- ---- one step
 
 module _ {s : List ℕ} where
-  pub met-found : {from : ℕ} {ws : List Word} {n : Stop} {w : Word} → Met s from ws n → next_word s from ≡ found w → (vs : List Word) × (ws ≡ w ∷ vs) × Met s (behind w) vs n
+  pub met-found : {from : ℕ} {ws : List Word} {n : Option ℕ} {w : Word} → Met s from ws n → next_word s from ≡ found w → (vs : List Word) × (ws ≡ w ∷ vs) × Met s (behind w) vs n
   met-found (ends e) f = absurd (let z : ◌≡◌ {A = ℕ} 0 1 = cc (e, f) in omega arith)
   met-found (halts p e) f = absurd (let z : ◌≡◌ {A = ℕ} 0 1 = cc (e, f) in omega arith)
   met-found {n = n} {w = w} (meets {ws = vs} v e x) f =
       let same : v ≡ w = cc (e, f) in
       (vs, ap (λ (u : Word). u ∷ vs) same, rw (← same) x)
 
-  pub met-stop : {from p : ℕ} {ws : List Word} {n : Stop} → Met s from ws n → next_word s from ≡ stops p → (ws ≡ []) × (n ≡ At p)
+  pub met-stop : {from p : ℕ} {ws : List Word} {n : Option ℕ} → Met s from ws n → next_word s from ≡ stops p → (ws ≡ []) × (n ≡ Some p)
   met-stop (ends e) f = absurd (let z : ◌≡◌ {A = ℕ} 0 1 = cc (e, f) in omega arith)
-  met-stop {p = p} (halts q e) f = let same : q ≡ p = cc (e, f) in (refl, ap At same)
+  met-stop {p = p} (halts q e) f = let same : q ≡ p = cc (e, f) in (refl, ap Some same)
   met-stop (meets v e x) f = absurd (let z : ◌≡◌ {A = ℕ} 0 1 = cc (e, f) in omega arith)
 
-  pub met_over : {from : ℕ} {ws : List Word} {n : Stop} → Met s from ws n → next_word s from ≡ over → (ws ≡ []) × (n ≡ None)
+  pub met_over : {from : ℕ} {ws : List Word} {n : Option ℕ} → Met s from ws n → next_word s from ≡ over → (ws ≡ []) × (n ≡ None)
   met_over (ends e) f = (refl, refl)
   met_over (halts q e) f = absurd (let z : ◌≡◌ {A = ℕ} 0 1 = cc (e, f) in omega arith)
   met_over (meets v e x) f = absurd (let z : ◌≡◌ {A = ℕ} 0 1 = cc (e, f) in omega arith)
 
   -- there are no more words than bytes
-  pub met-few : {from : ℕ} {ws : List Word} {n : Stop} → Met s from ws n → from ≤ length s → from + length ws ≤ length s
+  pub met-few : {from : ℕ} {ws : List Word} {n : Option ℕ} → Met s from ws n → from ≤ length s → from + length ws ≤ length s
   met-few (ends e) h = omega arith
   met-few (halts p e) h = omega arith
   met-few {from} (meets w e x) h = let a = ahead s from w h e in omega (arith, a.0, met-few x a.1)
 
   -- the words of the language
-  pub met-words : {from : ℕ} {ws : List Word} {n : Stop} → Met s from ws n → from ≤ length s → words_from s from ≡ ended n ws
+  pub met-words : {from : ℕ} {ws : List Word} {n : Option ℕ} → Met s from ws n → from ≤ length s → words_from s from ≡ ended n ws
   unfolding follow
   met-words {from} (ends e) h = words_step s from h ∙ rw e
   met-words {from} (halts p e) h = words_step s from h ∙ rw e
   met-words {from} (meets {ws = ws} {n = n} w e x) h = words_step s from h ∙ rw (e, met-words x (ahead s from w h e).1) (put n)
     where
-      put : (n : Stop) → before w (ended n ws) ≡ ended n (w ∷ ws)
+      put : (n : Option ℕ) → before w (ended n ws) ≡ ended n (w ∷ ws)
       put None = refl
-      put (At p) = refl
+      put (Some p) = refl

@@ -1,7 +1,7 @@
 -- A word that begins with neither a letter nor a digit: the first sign that fits, or none.
 -- Assumes nothing.
 use mathlib.Core.Bool.{true, false, not}
-use mathlib.Core.Path.{◌≡◌, refl, ◌∙◌, ap}
+use mathlib.Core.Path.{◌≡◌, refl, sym, ◌∙◌, ap}
 use mathlib.Core.List.{List, [], ◌∷◌}
 use mathlib.Core.Logic.{inl, inr}
 use mathlib.Core.Option.{some}
@@ -17,7 +17,9 @@ use Rattle.language.proofs.ScanLaws.{sign-length}
 use Rattle.language.proofs.Signs.{taken, fits, sign_plain}
 use Rattle.words.specs.Kinds.{spelling, sign_count}
 use Rattle.words.specs.Runs.{part}
-use Rattle.spellings.specs.Search.{fits_at, misses_at}
+use Rattle.std.specs.Prelude.{Some, None}
+use Rattle.spellings.specs.Search.{fits_at, misses_at, found}
+use Rattle.spellings.proofs.Chain.{found_number, found_not}
 use Rattle.words.specs.Meaning.{Stands}
 use Rattle.words.specs.declared.Next.TheVariants.{Found, Stops}
 use Rattle.words.proofs.First.{nth, nth_some, nth_none, first-number, first_passes, first-same}
@@ -29,35 +31,41 @@ among [] k h = absurd (omega arith)
 among (s ∷ ss) zero h = inl refl
 among (s ∷ ss) (suc k) h = inr (among ss k (omega arith))
 
--- k is the number of the sign, 24 for none
-module _ (s : List ℕ) (at : ℕ) (h : at < length s) (l : letter (get_or s at 0) ≡ false) (d : digit (get_or s at 0) ≡ false) (k : ℕ) (r : k ≡ first_not (misses_at s at at) (sign_count - 0) 0) where
+module _ (s : List ℕ) (at : ℕ) (h : at < length s) (l : letter (get_or s at 0) ≡ false) (d : digit (get_or s at 0) ≡ false) where
+  -- where the search for the sign comes to
+  abbrev which : ℕ
+  which = first_not (misses_at s at at) (sign_count - 0) 0
+
   test : (j : ℕ) → j < length signs → misses_at s at at (0 + j) ≡ not (begins (drop at s) (bytes (get_or signs j "")))
   unfolding fits_at spelling
   test j g =
       let z : 0 + j ≡ j = omega arith in
       rw (z, lt-ltb j sign_count (omega (arith, signs-length))) (ap (λ (x : String). not (begins (drop at s) (bytes x))) (sign_at j g))
 
-  first : first_of (begins (drop at s)) signs ≡ nth signs k
+  first : first_of (begins (drop at s)) signs ≡ nth signs which
   first =
       first-number (misses_at s at at) (begins (drop at s)) signs 0 test
-      ∙ ap (nth signs) (omega (arith, ap (λ (n : ℕ). first_not (misses_at s at at) n 0) signs-length, r))
+      ∙ ap (nth signs) (omega (arith, ap (λ (n : ℕ). first_not (misses_at s at at) n 0) signs-length))
 
-  long : word_length (drop at s) ≡ length_of (nth signs k)
+  long : word_length (drop at s) ≡ length_of (nth signs which)
   long = sign-length s at l d ∙ ap length_of first
 
-  pub no_sign : sign_count ≤ k → Stands s at (Stops at)
+  pub no_sign : None ≡ found sign_count which → Stands s at (Stops at)
   unfolding length_of
-  no_sign g = no_word s at h (long ∙ ap length_of (nth_none signs k (omega (arith, signs-length))))
+  no_sign r = no_word s at h (long ∙ ap length_of (nth_none signs which (omega (arith, found_not r, signs-length))))
 
-  module _ (g : k < sign_count) where
+  module _ {k : ℕ} (r : Some k ≡ found sign_count which) where
     known : k < length signs
-    known = omega (arith, signs-length)
+    known = omega (arith, (found_number r).0, signs-length)
+
+    here : nth signs which ≡ some (get_or signs k "")
+    here = ap (nth signs) (sym (found_number r).1) ∙ nth_some signs k known
 
     abbrev sign : String
     sign = get_or signs k ""
 
     taken-first : first_of (begins (drop at s)) signs ≡ some sign
-    taken-first = first ∙ nth_some signs k known
+    taken-first = first ∙ here
 
     stands : begins (drop at s) (bytes sign) ≡ true
     stands = first_passes (begins (drop at s)) signs sign taken-first
@@ -75,8 +83,8 @@ module _ (s : List ℕ) (at : ℕ) (h : at < length s) (l : letter (get_or s at 
     pub sign-here : (e : ℕ) → e ≡ at + length (spelling k) → Stands s at (Found (record { kind = 2 + k; start = at; end = e; value = 0 }))
     unfolding part too_large length_of kind_of spelled
     sign-here e n =
-        word-here s at h e (the sign) (long ∙ ap length_of (nth_some signs k known) ∙ size) (omega (arith, size, full)) kind (2 + k) 0
-        (numbered-spelled k ∙ ap the (sign_at k known)) (omega arith) (omega (arith, sign-inside)) refl (omega arith) refl
+        word-here s at h e (the sign) (long ∙ ap length_of here ∙ size) (omega (arith, size, full)) kind (2 + k) 0
+        (numbered-spelled k ∙ ap the (sign_at k known)) (omega (arith, (found_number r).0)) (omega (arith, sign-inside)) refl (omega arith) refl
       where
         size : length (bytes sign) ≡ e - at
         size = omega (arith, n, ap length spelled-so)

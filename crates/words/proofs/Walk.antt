@@ -14,8 +14,7 @@ use Rattle.words.specs.Meaning.{word_in, meaning, Sound, Answers, stop_of}
 use Rattle.words.specs.declared.Word.{Word}
 use Rattle.words.specs.declared.Next.{Next}
 use Rattle.words.specs.declared.Next.TheVariants.{Found, Stops, Over}
-use Rattle.words.specs.declared.Stop.{Stop}
-use Rattle.words.specs.declared.Stop.TheVariants.{At, None}
+use Rattle.std.specs.Prelude.{Option, Some, None}
 use Rattle.spellings.proofs.Parts.{part_length}
 
 -- what a caller may count on, of the word that was found
@@ -47,7 +46,7 @@ pub stop-past : (s : List ℕ) (from : ℕ) → length s ≤ from → None ≡ s
 unfolding words_from words_up_to follow next_word past_blanks
 stop-past s from h = rw (next_over s (from + span in_blanks (drop from s)) (omega arith))
 
-module _ {s : List ℕ} {from : ℕ} {r : Next} {n : Stop} (h : from ≤ length s) (i : stop_of (words_from s from) ≡ n) (x : Answers s from r) where
+module _ {s : List ℕ} {from : ℕ} {r : Next} {n : Option ℕ} (h : from ≤ length s) (i : stop_of (words_from s from) ≡ n) (x : Answers s from r) where
   pub stop-later : {w : Word} → r ≡ Found w → stop_of (words_from s w.end) ≡ n
   stop-later {w} e = same (words_from s w.end) ∙ ap stop_of (sym (words-found h x e)) ∙ i
     where
@@ -55,7 +54,7 @@ module _ {s : List ℕ} {from : ℕ} {r : Next} {n : Stop} (h : from ≤ length 
       same (words ws) = refl
       same (refused p) = refl
 
-  pub stop-here : {p : ℕ} → r ≡ Stops p → At p ≡ n
+  pub stop-here : {p : ℕ} → r ≡ Stops p → Some p ≡ n
   stop-here e = ap stop_of (sym (words-stop h x e)) ∙ i
 
   pub stop-nowhere : r ≡ Over → None ≡ n

@@ -1,6 +1,6 @@
 -- What the answers say in the terms of the language.
 -- Assumes nothing.
-use Rattle.std.specs.Prelude.{◌≡◌, List, ℕ, ◌≤◌, ◌<◌, length, drop}
+use Rattle.std.specs.Prelude.{◌≡◌, Option, Some, None, List, ℕ, ◌≤◌, ◌<◌, length, drop}
 use Rattle.language.specs.Words as Language
 use Rattle.language.specs.Words.{Kind, name, number, the, value_of, Words, words, refused}
 use Rattle.language.specs.Scan as Scan
@@ -10,8 +10,6 @@ use Rattle.words.specs.Runs.{part}
 use Rattle.words.specs.declared.Word.{Word}
 use Rattle.words.specs.declared.Next.{Next}
 use Rattle.words.specs.declared.Next.TheVariants.{Found, Stops, Over}
-use Rattle.words.specs.declared.Stop.{Stop}
-use Rattle.words.specs.declared.Stop.TheVariants.{At, None}
 
 -- the bytes of a word of a text
 abbrev pub bytes_of : List ℕ → Word → List ℕ
@@ -58,6 +56,6 @@ pub record Answers (s : List ℕ) (from : ℕ) (r : Next) : Type 0 where
   pub holds : Holds s from r
 
 -- refusal 4's place, if the words of a text have one: "no word starts here, name or number too large | that byte or word"
-abbrev pub stop_of : Words → Stop
+abbrev pub stop_of : Words → Option ℕ
 stop_of (words ws) = None
-stop_of (refused e) = At e
+stop_of (refused e) = Some e

@@ -7,11 +7,20 @@ ghost use Rattle.language.specs.Scan.{words_from, words_of};
 ghost use Rattle.words.specs.Runs.{part};
 ghost use Rattle.words.specs.Meaning.{Stands, Answers, stop_of};
 
+use spellings::bytes::part;
+
 mod bytes;
 pub mod kinds;
 mod scan;
 
+// "A name has at most 16 bytes"
+const LONGEST_NAME: usize = 16;
+
+// "Its value is at most 65,535"
+const LARGEST_NUMBER: u32 = 65535;
+
 // A word: its kind by number (`kinds`), its place, the place behind it, and a number's value.
+// No enum of 63 kinds: `numbered` and `kind_count` (specs/Kinds), `number-back` and the grammar's `code_of` say kinds by number, and may not change.
 #[derive(Clone, Copy)]
 pub struct Word {
     pub kind: u8,
@@ -20,19 +29,12 @@ pub struct Word {
     pub value: u32,
 }
 
-// What comes next: a word; refusal 4 and its place; or nothing but blanks.
+// What comes next: a word; refusal 4 and its place; or nothing but blanks. Three cases: an Option in a Result would be no plainer.
 #[derive(Clone, Copy)]
 pub enum Next {
     Found(Word),
     Stops(usize),
     Over,
-}
-
-// The place of refusal 4, if there is one.
-#[derive(Clone, Copy)]
-pub enum Stop {
-    At(usize),
-    None,
 }
 
 // The reserved word or the name that starts at a place.
@@ -41,16 +43,15 @@ fn name_at(s: &[u8], at: usize) -> Next
     ensures { Stands s.now at result }
 {
     let end = scan::name_end(s, at);
-    let k = spellings::reserved(s, at, end);
-    if k < spellings::SPELLINGS {
+    if let Some(k) = spellings::reserved(s, at, end) {
         return Next::Found(Word {
-            kind: 2 + k as u8,
+            kind: kinds::BARS + k as u8,
             start: at,
             end,
             value: 0,
         });
     }
-    if end - at <= 16 {
+    if end - at <= LONGEST_NAME {
         return Next::Found(Word {
             kind: kinds::NAME,
             start: at,
@@ -67,8 +68,8 @@ fn number_at(s: &[u8], at: usize) -> Next
     ensures { Stands s.now at result }
 {
     let end = scan::number_end(s, at);
-    let value = scan::value(s, at, end);
-    if value <= 65535 {
+    let value = scan::value(&s[at..end]);
+    if value <= LARGEST_NUMBER {
         return Next::Found(Word {
             kind: kinds::NUMBER,
             start: at,
@@ -84,16 +85,15 @@ fn sign_at(s: &[u8], at: usize) -> Next
     requires { (at < length s.now) × (letter (get_or s.now at 0) ≡ false) × (digit (get_or s.now at 0) ≡ false) }
     ensures { Stands s.now at result }
 {
-    let k = spellings::sign(s, at);
-    if k < spellings::SIGNS {
-        return Next::Found(Word {
-            kind: 2 + k as u8,
-            start: at,
-            end: at + spellings::sign_length(k),
-            value: 0,
-        });
-    }
-    Next::Stops(at)
+    let Some(k) = spellings::sign(s, at) else {
+        return Next::Stops(at);
+    };
+    Next::Found(Word {
+        kind: kinds::BARS + k as u8,
+        start: at,
+        end: at + spellings::sign_length(k),
+        value: 0,
+    })
 }
 
 // The word that starts at a place.
@@ -121,27 +121,24 @@ pub fn next_word(s: &[u8], from: usize) -> Next
 }
 
 // The place of refusal 4 from a place on: for any bytes and any place.
-pub fn stop_from(s: &[u8], place: usize) -> Stop
+pub fn stop_from(s: &[u8], place: usize) -> Option<usize>
     ensures { result ≡ stop_of (words_from s.now place) }
 {
     if s.len() < place {
-        return Stop::None;
+        return None;
     }
     let mut from = place;
     loop {
         match next_word(s, from) {
-            Next::Found(w) => {
-                from = w.end;
-                continue;
-            }
-            Next::Stops(e) => return Stop::At(e),
-            Next::Over => return Stop::None,
+            Next::Found(w) => from = w.end,
+            Next::Stops(e) => return Some(e),
+            Next::Over => return None,
         }
     }
 }
 
 // The place of refusal 4 in the whole text.
-pub fn first_stop(s: &[u8]) -> Stop
+pub fn first_stop(s: &[u8]) -> Option<usize>
     ensures { result ≡ stop_of (words_of s.now) }
 {
     stop_from(s, 0)
@@ -151,9 +148,5 @@ pub fn first_stop(s: &[u8]) -> Stop
 pub fn same_name(s: &[u8], a: usize, b: usize, c: usize, d: usize) -> bool
     ensures { result ≡ same (part s.now a b) (part s.now c d) }
 {
-    let n = s.len();
-    if scan::size(n, a, b) != scan::size(n, c, d) {
-        return false;
-    }
-    spellings::bytes::stands(s, a, s, c, d)
+    part(s, a, b) == part(s, c, d)
 }

@@ -1,6 +1,6 @@
--- `crc::over` meets its contract. The loop's invariant: the register at i, taken over the bytes that are left, ends where the whole does.
+-- `crc::over` meets its contract. The loop's invariant: the register at a byte, taken over the bytes that are left, ends where the whole does.
 -- Assumes nothing.
-use mathlib.Core.Path.{◌≡◌, refl, sym, ap, ◌∙◌}
+use mathlib.Core.Path.{◌≡◌, sym, ap, ◌∙◌}
 use Prim.Native.Nat.{ℕ, ◌+◌, ◌≤◌, ◌<◌}
 use native.Mathlib.Numerals.{add-one}
 use native.Mathlib.Omega.{arith}
@@ -18,20 +18,10 @@ done : (s : List ℕ) (r i : ℕ) → length s ≤ i → register r (drop i s) �
 unfolding register
 done s r i h = ap (register r) (drop_of_length-le s h)
 
-pub loop-i-init : goal.loop-i-init
-loop-i-init c = (omega arith, refl)
-
-pub next-r-requires : goal.next-r-requires
-next-r-requires c = c.requires
-
-pub loop-i-preserved : goal.loop-i-preserved
-loop-i-preserved c =
-    let l = c.loop-i in
-    let s = c.args.s.now in
-    let h : l.i < length s = omega arith in
-    (omega arith, ap (λ (x : ℕ). register x (drop (l.i + 1) s)) c.next-r.ensures ∙ sym (more s l.r l.i h) ∙ l.invariant.1)
+pub loop-b-preserved : goal.loop-b-preserved
+loop-b-preserved c = let l = c.loop-b in
+    ap (λ (x : ℕ). register x (drop (l.b-index + 1) c.args.s.now)) c.next-r.ensures ∙ sym (more c.args.s.now l.r l.b-index (omega arith)) ∙ l.invariant
 
 pub returns : goal.returns
-returns c =
-    let l = c.loop-i in
-    sym (done c.args.s.now l.r l.i c.loop-i-test.false) ∙ l.invariant.1
+returns c = let l = c.loop-b in
+    sym (done c.args.s.now l.r l.b-index (omega arith)) ∙ l.invariant

@@ -13,8 +13,8 @@ use Rattle.grammar_law.specs.Codes.{codes, choice}
 use Rattle.grammar.specs.Reading.{codes_in, Ready}
 use Rattle.grammar.specs.declared.Here.{Here}
 use Rattle.grammar.proofs.Along.{next-left, number-few}
-use Rattle.grammar.proofs.Answers.{is_read, is_stopped, said-stopped}
 use Rattle.grammar.proofs.Turning.{low, ends, stops, word-here, word_on, word-falls, level_on, level-falls, last_on, last-falls, call-closed, call-falls, call-stopped, call_on, call_on_falls}
+use Rattle.std.proofs.lemmas.Result.{err_from_is_err_and}
 use Rattle.grammar.proofs.+read.Goals as goal
 
 -- at the head of the loop
@@ -65,8 +65,8 @@ loop-w-smaller-in-Last t c = last-falls (here c.requires c.loop-w.invariant.0) c
 pub loop-w-preserved-in-Last : goal.loop-w-preserved-in-Last
 loop-w-preserved-in-Last t c = (last_on (here c.requires c.loop-w.invariant.0) c.loop-w.invariant.1.kind c.next_turn.ensures c.in-Last.is, c.loop-w.invariant.1)
 
-pub read-g-requires : goal.read-g-requires
-read-g-requires t c =
+pub read-requires : goal.read-requires
+read-requires t c =
     let o = c.requires in
     let h = here o c.loop-w.invariant.0 in (
       rw (← c.decreases) (call-falls h c.loop-w.invariant.1.kind c.next_turn.ensures c.in-Call.is),
@@ -75,13 +75,17 @@ read-g-requires t c =
 
 pub loop-w-smaller : goal.loop-w-smaller
 loop-w-smaller t c =
-    call_on_falls (here c.requires c.loop-w.invariant.0) c.loop-w.invariant.1.kind c.next_turn.ensures c.in-Call.is (is_read _ _ _ _ _ _ c.if-g.true c.read-g.ensures.said)
+    call_on_falls (here c.requires c.loop-w.invariant.0) c.loop-w.invariant.1.kind c.next_turn.ensures c.in-Call.is c.in_ok-w-in-Call.ensures.said
 
 pub loop-w-preserved : goal.loop-w-preserved
 loop-w-preserved t c =
-    (call_on (here c.requires c.loop-w.invariant.0) c.loop-w.invariant.1.kind c.next_turn.ensures c.in-Call.is (is_read _ _ _ _ _ _ c.if-g.true c.read-g.ensures.said), c.read-g.ensures.word)
+    (call_on (here c.requires c.loop-w.invariant.0) c.loop-w.invariant.1.kind c.next_turn.ensures c.in-Call.is c.in_ok-w-in-Call.ensures.said, c.in_ok-w-in-Call.ensures.word)
 
-pub returns-in-Call : goal.returns-in-Call
-returns-in-Call t c =
-    let g = c.read-g.ensures in
-    record { word = g.word; said = said-stopped _ _ _ _ _ _ c.if-g.false (call-stopped (here c.requires c.loop-w.invariant.0) c.loop-w.invariant.1.kind c.next_turn.ensures c.in-Call.is (is_stopped _ _ _ _ _ _ c.if-g.false g.said)) }
+pub returns-in_err-w-in-Call : goal.returns-in_err-w-in-Call
+returns-in_err-w-in-Call t c =
+    let p = err_from_is_err_and c.from_residual.result c.from_residual.ensures.1 in
+    rw (p.1, p.2)
+    (record {
+      word = c.in_err-w-in-Call.ensures.word;
+      said = call-stopped (here c.requires c.loop-w.invariant.0) c.loop-w.invariant.1.kind c.next_turn.ensures c.in-Call.is c.in_err-w-in-Call.ensures.said;
+    })

@@ -8,14 +8,11 @@ use Rattle.grammar.proofs.refusal.Goals as goal
 
 pub overflow_cast-result : goal.overflow_cast-result
 overflow_cast-result c =
-    omega (arith, four-inside c.args.text.now (c.stop_from.ensures ∙ c.requires.rest) c.in-At.is, c.requires.short)
+    omega (arith, four-inside c.args.text.now (c.stop_from.ensures ∙ c.requires.rest) c.in-Some.is, c.requires.short)
 
-pub returns-in-At : goal.returns-in-At
-returns-in-At c =
-    inr (c.requires.short, is_four c.args.text.now (c.stop_from.ensures ∙ c.requires.rest) c.in-At.is)
-
-pub overflow_cast-result-in-None : goal.overflow_cast-result-in-None
-overflow_cast-result-in-None c = omega (arith, c.requires.inside, c.requires.short)
+pub returns-in-Some : goal.returns-in-Some
+returns-in-Some c =
+    inr (c.requires.short, is_four c.args.text.now (c.stop_from.ensures ∙ c.requires.rest) c.in-Some.is)
 
 pub returns-in-None : goal.returns-in-None
 returns-in-None c =

@@ -1,14 +1,8 @@
 -- `grammar::word_from` meets its contract: one law of the walk for each answer of the scanner.
 -- Assumes nothing.
 use mathlib.Core.Path.{refl}
-use native.Mathlib.Omega.{arith}
-use Rattle.words.proofs.Walk.{sound}
 use Rattle.grammar.proofs.Along.{at_word, at_end_lem, at_stop}
 use Rattle.grammar.proofs.word_from.Goals as goal
-
-pub overflow_add-result : goal.overflow_add-result
-overflow_add-result c =
-    omega (arith, (sound c.next_word.ensures c.in-Found.is).known)
 
 pub returns-in-Found : goal.returns-in-Found
 returns-in-Found c =

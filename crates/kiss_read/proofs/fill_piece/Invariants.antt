@@ -1,6 +1,6 @@
 -- `kiss_read::fill_piece` meets its contract. The loop's invariant: the first e words of the piece are the stream's.
 -- Assumes nothing.
-use Prim.Native.Nat.{ℕ, ◌+◌, ◌*◌, ◌-◌, ◌<◌, ◌≤◌}
+use Prim.Native.Nat.{ℕ, ◌+◌, ◌*◌, ◌<◌, ◌≤◌}
 use mathlib.Core.Path.{◌≡◌}
 use lib.ListN.{length, get_or}
 use Rattle.file_law.specs.Table.{Table}
@@ -9,7 +9,7 @@ use Rattle.kiss_read.specs.Cursor.{TextOf, Ahead}
 use Rattle.kiss_read.proofs.fill_piece.Given as goal
 
 abbrev pub invariant-loop-e : goal.invariant-loop-e
-invariant-loop-e l = (l.e ≤ 252) × (l.end ≤ length l.text) × (length l.piece ≡ 504) × ((t : Table) → TextOf t l.text l.k l.o l.n → Ahead t l.text l.k l.o l.n l.w l.at → ((j : ℕ) → j < 2 * l.e → get_or l.piece j 0 ≡ get_or (stream_of t) (2 * l.w + j) 0) × Ahead t l.text l.k l.o l.n (l.w + l.e) l.end)
-
-abbrev pub decreases-loop-e : goal.decreases-loop-e
-decreases-loop-e l = 252 - l.e
+invariant-loop-e l =
+    (l.end ≤ length l.text) × (length l.piece ≡ 504)
+    × ((t : Table) → TextOf t l.text l.shape.sizes.inputs l.shape.sizes.outputs l.shape.sizes.states → Ahead t l.text l.shape.sizes.inputs l.shape.sizes.outputs l.shape.sizes.states l.w l.at
+    → ((j : ℕ) → j < 2 * l.e → get_or l.piece j 0 ≡ get_or (stream_of t) (2 * l.w + j) 0) × Ahead t l.text l.shape.sizes.inputs l.shape.sizes.outputs l.shape.sizes.states (l.w + l.e) l.end)

@@ -9,19 +9,19 @@ use Rattle.file_law.proofs.Lent.{written}
 use Rattle.kiss_read.proofs.put_blocks.Goals as goal
 
 pub loop-b-init : goal.loop-b-init
-loop-b-init c = (omega arith, c.requires.1, refl, λ t T a. (written_none (stream_of t) c.args.file.now c.args.total, a))
+loop-b-init c = (c.requires.0, refl, λ t T a. (written_none (stream_of t) c.args.file.now c.args.total, a))
 
 pub put_block-end-requires : goal.put_block-end-requires
-put_block-end-requires c = (c.requires.0, c.loop-b.invariant.1, c.requires.2, omega (arith, c.loop-b-test.true, c.requires.3), c.requires.3)
-
-pub overflow_add-b : goal.overflow_add-b
-overflow_add-b c = omega (arith, c.loop-b-test.true)
+put_block-end-requires c = (c.loop-b.invariant.0, omega (arith, c.loop-b-test.true, c.requires.1), c.requires.1)
 
 pub loop-b-preserved : goal.loop-b-preserved
-loop-b-preserved c = (omega arith, c.put_block-end.ensures.inside, c.put_block-end.ensures.long ∙ c.loop-b.invariant.2, λ t T a. let u = c.loop-b.invariant.3 t T a in let g = c.put_block-end.ensures.is t T u.1 in (g.0 ∙ written_next (stream_of t) c.loop-b.file c.args.file.now c.loop-b.b c.args.total u.0, g.1))
-
-pub shape_of-file : goal.shape_of-file
-shape_of-file c = c.loop-b.invariant.2
+loop-b-preserved c =
+    let l = c.loop-b in
+    let p = c.put_block-end.ensures in
+    (p.inside, p.long ∙ l.invariant.1, λ t T a. let u = l.invariant.2 t T a in let g = p.is t T u.1 in (g.0 ∙ written_next (stream_of t) l.file c.args.file.now l.b c.args.total u.0, g.1))
 
 pub returns : goal.returns
-returns c = let e : c.loop-b.b ≡ c.args.total = omega (arith, c.loop-b.invariant.0, c.loop-b-test.false) in record { long = c.loop-b.invariant.2; is = λ t T a. (c.loop-b.invariant.3 t T a).0 ∙ ap (λ (i : ℕ). written i c.args.total (stream_of t) c.args.file.now) e }
+returns c =
+    let l = c.loop-b in
+    let e : l.b ≡ c.args.total = omega arith in
+    record { long = l.invariant.1; is = λ t T a. (l.invariant.2 t T a).0 ∙ ap (λ (i : ℕ). written i c.args.total (stream_of t) c.args.file.now) e }

@@ -1,6 +1,6 @@
 -- `kiss_read::put_blocks` meets its contract. The loop's invariant: the first b blocks are put.
 -- Assumes nothing.
-use Prim.Native.Nat.{◌*◌, ◌-◌, ◌≤◌}
+use Prim.Native.Nat.{◌*◌, ◌≤◌}
 use mathlib.Core.Path.{◌≡◌}
 use lib.ListN.{length}
 use Rattle.file_law.specs.Table.{Table}
@@ -10,7 +10,4 @@ use Rattle.kiss_read.specs.Cursor.{TextOf, Ahead}
 use Rattle.kiss_read.proofs.put_blocks.Given as goal
 
 abbrev pub invariant-loop-b : goal.invariant-loop-b
-invariant-loop-b l = (l.b ≤ l.total) × (l.end ≤ length l.text) × (length l.file ≡ length l.initial.file) × ((t : Table) → TextOf t l.text l.k l.o l.n → Ahead t l.text l.k l.o l.n 0 l.at → (l.file ≡ written l.b l.total (stream_of t) l.initial.file) × Ahead t l.text l.k l.o l.n (252 * l.b) l.end)
-
-abbrev pub decreases-loop-b : goal.decreases-loop-b
-decreases-loop-b l = l.total - l.b
+invariant-loop-b l = (l.end ≤ length l.text) × (length l.file ≡ length l.initial.file) × ((t : Table) → TextOf t l.text l.shape.sizes.inputs l.shape.sizes.outputs l.shape.sizes.states → Ahead t l.text l.shape.sizes.inputs l.shape.sizes.outputs l.shape.sizes.states 0 l.at → (l.file ≡ written l.b l.total (stream_of t) l.initial.file) × Ahead t l.text l.shape.sizes.inputs l.shape.sizes.outputs l.shape.sizes.states (252 * l.b) l.end)

@@ -1,240 +1,59 @@
--- `kiss_walk::heading` meets its contract: five fields in turn.
+-- `kiss_walk::heading` meets its contract: five lines in turn.
 -- Assumes nothing.
-use native.Mathlib.Omega.{arith}
-use Rattle.kiss_walk.proofs.Walks.{goes, leaves, start_form, states_line, rows_line, outputs_line, code_inputs, code_outputs, code_rows, code_states, sizes_of_lem, apart-start, apart_lines, apart-rows, apart-outputs, apart-inputs, stands-first, headed_is}
-use Prim.Native.Nat.{ℕ, ◌+◌, ◌*◌, ◌^◌, ◌≤◌}
 use mathlib.Core.Path.{subst}
-use lib.Pow.{pow_mono}
-use borrow.Author.Tests.{not-true, not-false}
-use Rattle.kiss_law.specs.Text.{ascii, size_line}
-use Rattle.kiss_law.proofs.Forms.{code_fixed}
-use Rattle.kiss_fields.specs.Took.{Took}
-use Rattle.kiss_walk.specs.Walk.{rows_form}
+use Prim.Native.Nat.{ℕ, ◌+◌, ◌*◌}
+use Rattle.std.proofs.lemmas.Result.{err_from_is_err_and}
+use Rattle.kiss_walk.proofs.Walks.{moves, stops, at-first, at-rows, headed_is, sizes_of_lem}
+use Rattle.kiss_law.specs.Text.{size_line}
+use Rattle.kiss_fields.specs.Took.{Stood}
 use Rattle.kiss_walk.proofs.heading.Goals as goal
 
-pub size-requires : goal.size-requires
-size-requires c = (omega arith, omega arith, omega arith, omega arith, omega arith)
+pub returns-in_err-ins : goal.returns-in_err-ins
+returns-in_err-ins c =
+    let p = err_from_is_err_and c.from_residual.result c.from_residual.ensures.1 in
+    rw (p.1, p.2) (stops (at-first c.args.text.now) c.in_err-ins.ensures)
 
-pub returns-then-not-ins : goal.returns-then-not-ins
-returns-then-not-ins c = let x = c.args.text.now in
-    let r₁ = c.opened-ins.result in
-    let t₁ = c.opened-ins.ensures 6 (λ (a : ℕ). size_line 105 ((a + 1) * 1)) x 0 c.size.ensures in
-    leaves x 6 (λ (a : ℕ). size_line 105 ((a + 1) * 1)) outputs_line 0 code_inputs (stands-first x) r₁ t₁ apart-inputs (not-true r₁.found c.if-not-ins.true)
+pub returns-in_err-outs : goal.returns-in_err-outs
+returns-in_err-outs c =
+    let a = moves (at-first c.args.text.now) c.in_ok-ins.ensures in
+    let p = err_from_is_err_and c.from_residual-in_err-outs.result c.from_residual-in_err-outs.ensures.1 in
+    rw (p.1, p.2) (stops a c.in_err-outs.ensures)
 
-pub size-requires-2 : goal.size-requires-2
-size-requires-2 c = let x = c.args.text.now in
-    let r₁ = c.opened-ins.result in
-    let t₁ = c.opened-ins.ensures 6 (λ (a : ℕ). size_line 105 ((a + 1) * 1)) x 0 c.size.ensures in
-    let f₁ = not-false r₁.found c.if-not-ins.false in
-    let v₁ = (t₁.stood f₁).one in
-    let s₁ = goes x 6 (λ (a : ℕ). size_line 105 ((a + 1) * 1)) outputs_line 0 code_inputs (stands-first x) r₁ t₁ f₁ in
-    (s₁.inside, omega arith, omega arith, omega arith, omega arith)
+pub returns-in_err-rows : goal.returns-in_err-rows
+returns-in_err-rows c =
+    let a = moves (moves (at-first c.args.text.now) c.in_ok-ins.ensures) c.in_ok-outs.ensures in
+    let b = at-rows c.args.text.now c.in_ok-ins.ins.value c.in_ok-outs.outs.value c.pow2.result c.in_ok-outs.outs.end c.pow2.ensures.0 a in
+    let p = err_from_is_err_and c.from_residual-in_err-rows.result c.from_residual-in_err-rows.ensures.1 in
+    rw (p.1, p.2) (stops b c.in_err-rows.ensures)
 
-pub returns-then-not-outs : goal.returns-then-not-outs
-returns-then-not-outs c = let x = c.args.text.now in
-    let r₁ = c.opened-ins.result in
-    let t₁ = c.opened-ins.ensures 6 (λ (a : ℕ). size_line 105 ((a + 1) * 1)) x 0 c.size.ensures in
-    let f₁ = not-false r₁.found c.if-not-ins.false in
-    let v₁ = (t₁.stood f₁).one in
-    let s₁ = goes x 6 (λ (a : ℕ). size_line 105 ((a + 1) * 1)) outputs_line 0 code_inputs (stands-first x) r₁ t₁ f₁ in
-    let r₂ = c.opened-outs.result in
-    let t₂ = c.opened-outs.ensures 16 (λ (a : ℕ). size_line 111 ((a + 1) * 1)) x r₁.place c.size-2.ensures in
-    leaves x 16 (λ (a : ℕ). size_line 111 ((a + 1) * 1)) (λ (b : ℕ). rows_line r₁.value b) r₁.place code_outputs s₁ r₂ t₂ (apart-outputs r₁.value v₁) (not-true r₂.found c.if-not-outs.true)
+pub returns-in_err-all : goal.returns-in_err-all
+returns-in_err-all c =
+    let a = moves (moves (at-first c.args.text.now) c.in_ok-ins.ensures) c.in_ok-outs.ensures in
+    let b = at-rows c.args.text.now c.in_ok-ins.ins.value c.in_ok-outs.outs.value c.pow2.result c.in_ok-outs.outs.end c.pow2.ensures.0 a in
+    let p = err_from_is_err_and c.from_residual-in_err-all.result c.from_residual-in_err-all.ensures.1 in
+    rw (p.1, p.2) (stops (moves b c.in_ok-rows.ensures) c.in_err-all.ensures)
 
-pub overflow_add-k : goal.overflow_add-k
-overflow_add-k c = let x = c.args.text.now in
-    let r₁ = c.opened-ins.result in
-    let t₁ = c.opened-ins.ensures 6 (λ (a : ℕ). size_line 105 ((a + 1) * 1)) x 0 c.size.ensures in
-    let f₁ = not-false r₁.found c.if-not-ins.false in
-    let v₁ = (t₁.stood f₁).one in
-    let s₁ = goes x 6 (λ (a : ℕ). size_line 105 ((a + 1) * 1)) outputs_line 0 code_inputs (stands-first x) r₁ t₁ f₁ in
-    omega (arith, v₁)
-
-pub pow2-requires : goal.pow2-requires
-pow2-requires c = let x = c.args.text.now in
-    let r₁ = c.opened-ins.result in
-    let t₁ = c.opened-ins.ensures 6 (λ (a : ℕ). size_line 105 ((a + 1) * 1)) x 0 c.size.ensures in
-    let f₁ = not-false r₁.found c.if-not-ins.false in
-    let v₁ = (t₁.stood f₁).one in
-    let s₁ = goes x 6 (λ (a : ℕ). size_line 105 ((a + 1) * 1)) outputs_line 0 code_inputs (stands-first x) r₁ t₁ f₁ in
-    omega (arith, v₁)
-
-pub size-requires-3 : goal.size-requires-3
-size-requires-3 c = let x = c.args.text.now in
-    let r₁ = c.opened-ins.result in
-    let t₁ = c.opened-ins.ensures 6 (λ (a : ℕ). size_line 105 ((a + 1) * 1)) x 0 c.size.ensures in
-    let f₁ = not-false r₁.found c.if-not-ins.false in
-    let v₁ = (t₁.stood f₁).one in
-    let s₁ = goes x 6 (λ (a : ℕ). size_line 105 ((a + 1) * 1)) outputs_line 0 code_inputs (stands-first x) r₁ t₁ f₁ in
-    let r₂ = c.opened-outs.result in
-    let t₂ = c.opened-outs.ensures 16 (λ (a : ℕ). size_line 111 ((a + 1) * 1)) x r₁.place c.size-2.ensures in
-    let f₂ = not-false r₂.found c.if-not-outs.false in
-    let v₂ = (t₂.stood f₂).one in
-    let s₂ = goes x 16 (λ (a : ℕ). size_line 111 ((a + 1) * 1)) (λ (b : ℕ). rows_line r₁.value b) r₁.place code_outputs s₁ r₂ t₂ f₂ in
-    let q : 2 ^ (r₁.value + 1) ≤ 64 = pow_mono {j = 6} (omega (arith, v₁)) in
-    (s₂.inside, omega arith, omega arith, omega (arith, c.pow2.ensures.0), omega (arith, c.pow2.ensures.0))
-
-pub returns-then-not-rows : goal.returns-then-not-rows
-returns-then-not-rows c = let x = c.args.text.now in
-    let r₁ = c.opened-ins.result in
-    let t₁ = c.opened-ins.ensures 6 (λ (a : ℕ). size_line 105 ((a + 1) * 1)) x 0 c.size.ensures in
-    let f₁ = not-false r₁.found c.if-not-ins.false in
-    let v₁ = (t₁.stood f₁).one in
-    let s₁ = goes x 6 (λ (a : ℕ). size_line 105 ((a + 1) * 1)) outputs_line 0 code_inputs (stands-first x) r₁ t₁ f₁ in
-    let r₂ = c.opened-outs.result in
-    let t₂ = c.opened-outs.ensures 16 (λ (a : ℕ). size_line 111 ((a + 1) * 1)) x r₁.place c.size-2.ensures in
-    let f₂ = not-false r₂.found c.if-not-outs.false in
-    let v₂ = (t₂.stood f₂).one in
-    let s₂ = goes x 16 (λ (a : ℕ). size_line 111 ((a + 1) * 1)) (λ (b : ℕ). rows_line r₁.value b) r₁.place code_outputs s₁ r₂ t₂ f₂ in
-    let r₃ = c.opened-rows.result in
-    let t₃ = c.opened-rows.ensures 256 (λ (a : ℕ). size_line 112 ((a + 1) * 2 ^ (r₁.value + 1))) x r₂.place (subst (λ (u : ℕ). Took 256 (λ (a : ℕ). size_line 112 ((a + 1) * u)) x r₂.place c.size-3.result) c.pow2.ensures.0 c.size-3.ensures) in
-    leaves x 256 (λ (a : ℕ). size_line 112 ((a + 1) * 2 ^ (r₁.value + 1))) (λ (b : ℕ). states_line r₁.value r₂.value b) r₂.place (code_rows r₁.value v₁) s₂ r₃ t₃ (apart-rows r₁.value r₂.value v₁ v₂) (not-true r₃.found c.if-not-rows.true)
-
-pub overflow_add-n : goal.overflow_add-n
-overflow_add-n c = let x = c.args.text.now in
-    let r₁ = c.opened-ins.result in
-    let t₁ = c.opened-ins.ensures 6 (λ (a : ℕ). size_line 105 ((a + 1) * 1)) x 0 c.size.ensures in
-    let f₁ = not-false r₁.found c.if-not-ins.false in
-    let v₁ = (t₁.stood f₁).one in
-    let s₁ = goes x 6 (λ (a : ℕ). size_line 105 ((a + 1) * 1)) outputs_line 0 code_inputs (stands-first x) r₁ t₁ f₁ in
-    let r₂ = c.opened-outs.result in
-    let t₂ = c.opened-outs.ensures 16 (λ (a : ℕ). size_line 111 ((a + 1) * 1)) x r₁.place c.size-2.ensures in
-    let f₂ = not-false r₂.found c.if-not-outs.false in
-    let v₂ = (t₂.stood f₂).one in
-    let s₂ = goes x 16 (λ (a : ℕ). size_line 111 ((a + 1) * 1)) (λ (b : ℕ). rows_line r₁.value b) r₁.place code_outputs s₁ r₂ t₂ f₂ in
-    let r₃ = c.opened-rows.result in
-    let t₃ = c.opened-rows.ensures 256 (λ (a : ℕ). size_line 112 ((a + 1) * 2 ^ (r₁.value + 1))) x r₂.place (subst (λ (u : ℕ). Took 256 (λ (a : ℕ). size_line 112 ((a + 1) * u)) x r₂.place c.size-3.result) c.pow2.ensures.0 c.size-3.ensures) in
-    let f₃ = not-false r₃.found c.if-not-rows.false in
-    let v₃ = (t₃.stood f₃).one in
-    let s₃ = goes x 256 (λ (a : ℕ). size_line 112 ((a + 1) * 2 ^ (r₁.value + 1))) (λ (b : ℕ). states_line r₁.value r₂.value b) r₂.place (code_rows r₁.value v₁) s₂ r₃ t₃ f₃ in
-    omega (arith, v₃)
-
-pub size-requires-4 : goal.size-requires-4
-size-requires-4 c = let x = c.args.text.now in
-    let r₁ = c.opened-ins.result in
-    let t₁ = c.opened-ins.ensures 6 (λ (a : ℕ). size_line 105 ((a + 1) * 1)) x 0 c.size.ensures in
-    let f₁ = not-false r₁.found c.if-not-ins.false in
-    let v₁ = (t₁.stood f₁).one in
-    let s₁ = goes x 6 (λ (a : ℕ). size_line 105 ((a + 1) * 1)) outputs_line 0 code_inputs (stands-first x) r₁ t₁ f₁ in
-    let r₂ = c.opened-outs.result in
-    let t₂ = c.opened-outs.ensures 16 (λ (a : ℕ). size_line 111 ((a + 1) * 1)) x r₁.place c.size-2.ensures in
-    let f₂ = not-false r₂.found c.if-not-outs.false in
-    let v₂ = (t₂.stood f₂).one in
-    let s₂ = goes x 16 (λ (a : ℕ). size_line 111 ((a + 1) * 1)) (λ (b : ℕ). rows_line r₁.value b) r₁.place code_outputs s₁ r₂ t₂ f₂ in
-    let r₃ = c.opened-rows.result in
-    let t₃ = c.opened-rows.ensures 256 (λ (a : ℕ). size_line 112 ((a + 1) * 2 ^ (r₁.value + 1))) x r₂.place (subst (λ (u : ℕ). Took 256 (λ (a : ℕ). size_line 112 ((a + 1) * u)) x r₂.place c.size-3.result) c.pow2.ensures.0 c.size-3.ensures) in
-    let f₃ = not-false r₃.found c.if-not-rows.false in
-    let v₃ = (t₃.stood f₃).one in
-    let s₃ = goes x 256 (λ (a : ℕ). size_line 112 ((a + 1) * 2 ^ (r₁.value + 1))) (λ (b : ℕ). states_line r₁.value r₂.value b) r₂.place (code_rows r₁.value v₁) s₂ r₃ t₃ f₃ in
-    (s₃.inside, omega arith, omega arith, omega (arith, v₃), omega (arith, v₃))
-
-pub returns-then-not-all : goal.returns-then-not-all
-returns-then-not-all c = let x = c.args.text.now in
-    let r₁ = c.opened-ins.result in
-    let t₁ = c.opened-ins.ensures 6 (λ (a : ℕ). size_line 105 ((a + 1) * 1)) x 0 c.size.ensures in
-    let f₁ = not-false r₁.found c.if-not-ins.false in
-    let v₁ = (t₁.stood f₁).one in
-    let s₁ = goes x 6 (λ (a : ℕ). size_line 105 ((a + 1) * 1)) outputs_line 0 code_inputs (stands-first x) r₁ t₁ f₁ in
-    let r₂ = c.opened-outs.result in
-    let t₂ = c.opened-outs.ensures 16 (λ (a : ℕ). size_line 111 ((a + 1) * 1)) x r₁.place c.size-2.ensures in
-    let f₂ = not-false r₂.found c.if-not-outs.false in
-    let v₂ = (t₂.stood f₂).one in
-    let s₂ = goes x 16 (λ (a : ℕ). size_line 111 ((a + 1) * 1)) (λ (b : ℕ). rows_line r₁.value b) r₁.place code_outputs s₁ r₂ t₂ f₂ in
-    let r₃ = c.opened-rows.result in
-    let t₃ = c.opened-rows.ensures 256 (λ (a : ℕ). size_line 112 ((a + 1) * 2 ^ (r₁.value + 1))) x r₂.place (subst (λ (u : ℕ). Took 256 (λ (a : ℕ). size_line 112 ((a + 1) * u)) x r₂.place c.size-3.result) c.pow2.ensures.0 c.size-3.ensures) in
-    let f₃ = not-false r₃.found c.if-not-rows.false in
-    let v₃ = (t₃.stood f₃).one in
-    let s₃ = goes x 256 (λ (a : ℕ). size_line 112 ((a + 1) * 2 ^ (r₁.value + 1))) (λ (b : ℕ). states_line r₁.value r₂.value b) r₂.place (code_rows r₁.value v₁) s₂ r₃ t₃ f₃ in
-    let r₄ = c.opened-all.result in
-    let t₄ = c.opened-all.ensures 1 (λ (a : ℕ). size_line 115 ((a + 1) * (r₃.value + 1))) x r₃.place c.size-4.ensures in
-    leaves x 1 (λ (a : ℕ). size_line 115 ((a + 1) * (r₃.value + 1))) (λ (b : ℕ). start_form (r₁.value + 1) (r₂.value + 1) (r₃.value + 1)) r₃.place (code_states r₃.value v₃) s₃ r₄ t₄ (apart_lines r₁.value r₂.value r₃.value v₁ v₂ v₃) (not-true r₄.found c.if-not-all.true)
-
-pub fixed-requires : goal.fixed-requires
-fixed-requires c = let x = c.args.text.now in
-    let r₁ = c.opened-ins.result in
-    let t₁ = c.opened-ins.ensures 6 (λ (a : ℕ). size_line 105 ((a + 1) * 1)) x 0 c.size.ensures in
-    let f₁ = not-false r₁.found c.if-not-ins.false in
-    let v₁ = (t₁.stood f₁).one in
-    let s₁ = goes x 6 (λ (a : ℕ). size_line 105 ((a + 1) * 1)) outputs_line 0 code_inputs (stands-first x) r₁ t₁ f₁ in
-    let r₂ = c.opened-outs.result in
-    let t₂ = c.opened-outs.ensures 16 (λ (a : ℕ). size_line 111 ((a + 1) * 1)) x r₁.place c.size-2.ensures in
-    let f₂ = not-false r₂.found c.if-not-outs.false in
-    let v₂ = (t₂.stood f₂).one in
-    let s₂ = goes x 16 (λ (a : ℕ). size_line 111 ((a + 1) * 1)) (λ (b : ℕ). rows_line r₁.value b) r₁.place code_outputs s₁ r₂ t₂ f₂ in
-    let r₃ = c.opened-rows.result in
-    let t₃ = c.opened-rows.ensures 256 (λ (a : ℕ). size_line 112 ((a + 1) * 2 ^ (r₁.value + 1))) x r₂.place (subst (λ (u : ℕ). Took 256 (λ (a : ℕ). size_line 112 ((a + 1) * u)) x r₂.place c.size-3.result) c.pow2.ensures.0 c.size-3.ensures) in
-    let f₃ = not-false r₃.found c.if-not-rows.false in
-    let v₃ = (t₃.stood f₃).one in
-    let s₃ = goes x 256 (λ (a : ℕ). size_line 112 ((a + 1) * 2 ^ (r₁.value + 1))) (λ (b : ℕ). states_line r₁.value r₂.value b) r₂.place (code_rows r₁.value v₁) s₂ r₃ t₃ f₃ in
-    let r₄ = c.opened-all.result in
-    let t₄ = c.opened-all.ensures 1 (λ (a : ℕ). size_line 115 ((a + 1) * (r₃.value + 1))) x r₃.place c.size-4.ensures in
-    let f₄ = not-false r₄.found c.if-not-all.false in
-    let v₄ = (t₄.stood f₄).one in
-    let s₄ = goes x 1 (λ (a : ℕ). size_line 115 ((a + 1) * (r₃.value + 1))) (λ (b : ℕ). start_form (r₁.value + 1) (r₂.value + 1) (r₃.value + 1)) r₃.place (code_states r₃.value v₃) s₃ r₄ t₄ f₄ in
-    s₄.inside
-
-pub returns-then-not-start : goal.returns-then-not-start
-returns-then-not-start c = let x = c.args.text.now in
-    let r₁ = c.opened-ins.result in
-    let t₁ = c.opened-ins.ensures 6 (λ (a : ℕ). size_line 105 ((a + 1) * 1)) x 0 c.size.ensures in
-    let f₁ = not-false r₁.found c.if-not-ins.false in
-    let v₁ = (t₁.stood f₁).one in
-    let s₁ = goes x 6 (λ (a : ℕ). size_line 105 ((a + 1) * 1)) outputs_line 0 code_inputs (stands-first x) r₁ t₁ f₁ in
-    let r₂ = c.opened-outs.result in
-    let t₂ = c.opened-outs.ensures 16 (λ (a : ℕ). size_line 111 ((a + 1) * 1)) x r₁.place c.size-2.ensures in
-    let f₂ = not-false r₂.found c.if-not-outs.false in
-    let v₂ = (t₂.stood f₂).one in
-    let s₂ = goes x 16 (λ (a : ℕ). size_line 111 ((a + 1) * 1)) (λ (b : ℕ). rows_line r₁.value b) r₁.place code_outputs s₁ r₂ t₂ f₂ in
-    let r₃ = c.opened-rows.result in
-    let t₃ = c.opened-rows.ensures 256 (λ (a : ℕ). size_line 112 ((a + 1) * 2 ^ (r₁.value + 1))) x r₂.place (subst (λ (u : ℕ). Took 256 (λ (a : ℕ). size_line 112 ((a + 1) * u)) x r₂.place c.size-3.result) c.pow2.ensures.0 c.size-3.ensures) in
-    let f₃ = not-false r₃.found c.if-not-rows.false in
-    let v₃ = (t₃.stood f₃).one in
-    let s₃ = goes x 256 (λ (a : ℕ). size_line 112 ((a + 1) * 2 ^ (r₁.value + 1))) (λ (b : ℕ). states_line r₁.value r₂.value b) r₂.place (code_rows r₁.value v₁) s₂ r₃ t₃ f₃ in
-    let r₄ = c.opened-all.result in
-    let t₄ = c.opened-all.ensures 1 (λ (a : ℕ). size_line 115 ((a + 1) * (r₃.value + 1))) x r₃.place c.size-4.ensures in
-    let f₄ = not-false r₄.found c.if-not-all.false in
-    let v₄ = (t₄.stood f₄).one in
-    let s₄ = goes x 1 (λ (a : ℕ). size_line 115 ((a + 1) * (r₃.value + 1))) (λ (b : ℕ). start_form (r₁.value + 1) (r₂.value + 1) (r₃.value + 1)) r₃.place (code_states r₃.value v₃) s₃ r₄ t₄ f₄ in
-    let r₅ = c.opened-start.result in
-    let t₅ = c.opened-start.ensures 1 (λ (a : ℕ). ascii ".r s0\n") x r₄.place c.fixed.ensures in
-    leaves x 1 (λ (a : ℕ). ascii ".r s0\n") (λ (b : ℕ). rows_form (r₁.value + 1) (r₂.value + 1) (r₃.value + 1) 0) r₄.place (code_fixed (ascii ".r s0\n")) s₄ r₅ t₅ (apart-start (r₁.value + 1) (r₂.value + 1) (r₃.value + 1) (sizes_of_lem r₁.value r₂.value r₃.value v₁ v₂ v₃)) (not-true r₅.found c.if-not-start.true)
+pub returns-in_err-start : goal.returns-in_err-start
+returns-in_err-start c =
+    let a = moves (moves (at-first c.args.text.now) c.in_ok-ins.ensures) c.in_ok-outs.ensures in
+    let b = at-rows c.args.text.now c.in_ok-ins.ins.value c.in_ok-outs.outs.value c.pow2.result c.in_ok-outs.outs.end c.pow2.ensures.0 a in
+    let p = err_from_is_err_and c.from_residual-in_err-start.result c.from_residual-in_err-start.ensures.1 in
+    rw (p.1, p.2) (stops (moves (moves b c.in_ok-rows.ensures) c.in_ok-all.ensures) c.in_err-start.ensures)
 
 pub returns : goal.returns
-returns c = let x = c.args.text.now in
-    let r₁ = c.opened-ins.result in
-    let t₁ = c.opened-ins.ensures 6 (λ (a : ℕ). size_line 105 ((a + 1) * 1)) x 0 c.size.ensures in
-    let f₁ = not-false r₁.found c.if-not-ins.false in
-    let v₁ = (t₁.stood f₁).one in
-    let s₁ = goes x 6 (λ (a : ℕ). size_line 105 ((a + 1) * 1)) outputs_line 0 code_inputs (stands-first x) r₁ t₁ f₁ in
-    let r₂ = c.opened-outs.result in
-    let t₂ = c.opened-outs.ensures 16 (λ (a : ℕ). size_line 111 ((a + 1) * 1)) x r₁.place c.size-2.ensures in
-    let f₂ = not-false r₂.found c.if-not-outs.false in
-    let v₂ = (t₂.stood f₂).one in
-    let s₂ = goes x 16 (λ (a : ℕ). size_line 111 ((a + 1) * 1)) (λ (b : ℕ). rows_line r₁.value b) r₁.place code_outputs s₁ r₂ t₂ f₂ in
-    let r₃ = c.opened-rows.result in
-    let t₃ = c.opened-rows.ensures 256 (λ (a : ℕ). size_line 112 ((a + 1) * 2 ^ (r₁.value + 1))) x r₂.place (subst (λ (u : ℕ). Took 256 (λ (a : ℕ). size_line 112 ((a + 1) * u)) x r₂.place c.size-3.result) c.pow2.ensures.0 c.size-3.ensures) in
-    let f₃ = not-false r₃.found c.if-not-rows.false in
-    let v₃ = (t₃.stood f₃).one in
-    let s₃ = goes x 256 (λ (a : ℕ). size_line 112 ((a + 1) * 2 ^ (r₁.value + 1))) (λ (b : ℕ). states_line r₁.value r₂.value b) r₂.place (code_rows r₁.value v₁) s₂ r₃ t₃ f₃ in
-    let r₄ = c.opened-all.result in
-    let t₄ = c.opened-all.ensures 1 (λ (a : ℕ). size_line 115 ((a + 1) * (r₃.value + 1))) x r₃.place c.size-4.ensures in
-    let f₄ = not-false r₄.found c.if-not-all.false in
-    let v₄ = (t₄.stood f₄).one in
-    let s₄ = goes x 1 (λ (a : ℕ). size_line 115 ((a + 1) * (r₃.value + 1))) (λ (b : ℕ). start_form (r₁.value + 1) (r₂.value + 1) (r₃.value + 1)) r₃.place (code_states r₃.value v₃) s₃ r₄ t₄ f₄ in
-    let r₅ = c.opened-start.result in
-    let t₅ = c.opened-start.ensures 1 (λ (a : ℕ). ascii ".r s0\n") x r₄.place c.fixed.ensures in
-    let f₅ = not-false r₅.found c.if-not-start.false in
-    let v₅ = (t₅.stood f₅).one in
-    let s₅ = goes x 1 (λ (a : ℕ). ascii ".r s0\n") (λ (b : ℕ). rows_form (r₁.value + 1) (r₂.value + 1) (r₃.value + 1) 0) r₄.place (code_fixed (ascii ".r s0\n")) s₄ r₅ t₅ f₅ in
-    record {
-      sizes = sizes_of_lem r₁.value r₂.value r₃.value v₁ v₂ v₃;
-      stands = s₅;
-      is = headed_is x r₁.value r₂.value r₃.value r₄.value r₅.value r₁.place r₂.place r₃.place r₄.place r₅.place (t₁.stood f₁) (t₂.stood f₂) (t₃.stood f₃) (t₄.stood f₄) (t₅.stood f₅);
-    }
-
-pub overflow_add-result : goal.overflow_add-result
-overflow_add-result c =
+returns c =
     let x = c.args.text.now in
-    let r₁ = c.opened-ins.result in
-    let t₂ = c.opened-outs.ensures 16 (λ (a : ℕ). size_line 111 ((a + 1) * 1)) x r₁.place c.size-2.ensures in
-    omega (arith, (t₂.stood (not-false c.opened-outs.result.found c.if-not-outs.false)).one)
+    let i = c.in_ok-ins.ins in
+    let o = c.in_ok-outs.outs in
+    let r = c.in_ok-rows.rows in
+    let d = c.in_ok-all.all in
+    let s = c.in_ok-start.start in
+    let a = moves (moves (at-first x) c.in_ok-ins.ensures) c.in_ok-outs.ensures in
+    let b = at-rows x i.value o.value c.pow2.result o.end c.pow2.ensures.0 a in
+    let e = moves (moves (moves b c.in_ok-rows.ensures) c.in_ok-all.ensures) c.in_ok-start.ensures in
+    let q = subst (λ (u : ℕ). Stood 256 (λ (a : ℕ). size_line 112 ((a + 1) * u)) x o.end r.value r.end) c.pow2.ensures.0 c.in_ok-rows.ensures in
+    record {
+      sizes = sizes_of_lem i.value o.value r.value c.in_ok-ins.ensures.one c.in_ok-outs.ensures.one c.in_ok-rows.ensures.one;
+      stands = e.stands;
+      is = headed_is x i.value o.value r.value d.value s.value i.end o.end r.end d.end s.end c.in_ok-ins.ensures c.in_ok-outs.ensures q c.in_ok-all.ensures c.in_ok-start.ensures;
+    }

@@ -1,159 +1,39 @@
 -- `kiss_walk::other_row` meets its contract: four fields in turn.
 -- Assumes nothing.
-use native.Mathlib.Omega.{arith}
-use Rattle.kiss_walk.proofs.Walks.{goes, leaves, went_off, line_end, other_shown, other_next, stands-other, apart_other}
-use Prim.Native.Nat.{ℕ, ◌+◌}
-use mathlib.Core.List.{[], ◌∷◌, ◌++◌}
-use borrow.Author.Tests.{not-true, not-false}
-use Rattle.kiss_law.specs.Text.{decimal, bits, row_head}
-use Rattle.kiss_law.proofs.Forms.{code_fixed, code_next}
-use Rattle.kiss_walk.specs.Walk.{in_form}
+use Rattle.std.proofs.lemmas.Result.{err_from_is_err_and}
+use Rattle.kiss_walk.proofs.Walks.{moves, stops, at-other}
 use Rattle.kiss_walk.proofs.other_row.Goals as goal
 
-pub head-requires : goal.head-requires
-head-requires c = (c.requires.3.inside, c.requires.0.most_inputs, omega (arith, c.requires.1, c.requires.0.most_states))
+pub returns-in_err-head : goal.returns-in_err-head
+returns-in_err-head c =
+    let z = c.args.z in
+    let a₁ = at-other z.inputs z.outputs z.states c.args.z.fit c.args.text.now c.args.state c.args.input c.args.w c.args.at c.requires.1 c.requires.2 in
+    let p = err_from_is_err_and c.from_residual.result c.from_residual.ensures.1 in
+    rw (p.1, p.2) (stops a₁ c.in_err-head.ensures)
 
-pub returns-then-not-head : goal.returns-then-not-head
-returns-then-not-head c = let x = c.args.text.now in
-    let k = c.args.k in
-    let o = c.args.o in
-    let n = c.args.n in
-    let state = c.args.state in
-    let input = c.args.input in
-    let w = c.args.w in
-    let z = c.requires.0 in
-    let r₁ = c.opened-head.result in
-    let t₁ = c.opened-head.ensures 1 (λ (a : ℕ). row_head k state input) x c.args.at c.head.ensures in
-    went_off x (λ (v : ℕ). in_form k o n state w (input + 1)) c.stopped.result r₁.place c.stopped.ensures (leaves x 1 (λ (a : ℕ). row_head k state input) (λ (a : ℕ). other_next k o n z state input w) c.args.at (code_fixed (row_head k state input)) (stands-other k o n z x state input w c.args.at c.requires.2 c.requires.3) r₁ t₁ (apart_other k o n z state input w c.requires.2) (not-true r₁.found c.if-not-head.true))
+pub returns-in_err-next : goal.returns-in_err-next
+returns-in_err-next c =
+    let z = c.args.z in
+    let a₁ = at-other z.inputs z.outputs z.states c.args.z.fit c.args.text.now c.args.state c.args.input c.args.w c.args.at c.requires.1 c.requires.2 in
+    let p = err_from_is_err_and c.from_residual-in_err-next.result c.from_residual-in_err-next.ensures.1 in
+    rw (p.1, p.2) (stops (moves a₁ c.in_ok-head.ensures) c.in_err-next.ensures)
 
-pub next-requires : goal.next-requires
-next-requires c = let x = c.args.text.now in
-    let k = c.args.k in
-    let o = c.args.o in
-    let n = c.args.n in
-    let state = c.args.state in
-    let input = c.args.input in
-    let w = c.args.w in
-    let z = c.requires.0 in
-    let r₁ = c.opened-head.result in
-    let t₁ = c.opened-head.ensures 1 (λ (a : ℕ). row_head k state input) x c.args.at c.head.ensures in
-    let f₁ = not-false r₁.found c.if-not-head.false in
-    let s₁ = goes x 1 (λ (a : ℕ). row_head k state input) (λ (a : ℕ). other_next k o n z state input w) c.args.at (code_fixed (row_head k state input)) (stands-other k o n z x state input w c.args.at c.requires.2 c.requires.3) r₁ t₁ f₁ in
-    let p₂ = (apart_other k o n z state input w c.requires.2).2 r₁.value (t₁.stood f₁).one in
-    (s₁.inside, z.states, z.most_states)
+pub returns-in_err-shown : goal.returns-in_err-shown
+returns-in_err-shown c =
+    let z = c.args.z in
+    let a₁ = at-other z.inputs z.outputs z.states c.args.z.fit c.args.text.now c.args.state c.args.input c.args.w c.args.at c.requires.1 c.requires.2 in
+    let p = err_from_is_err_and c.from_residual-in_err-shown.result c.from_residual-in_err-shown.ensures.1 in
+    rw (p.1, p.2) (stops (moves (moves a₁ c.in_ok-head.ensures) c.in_ok-next.ensures) c.in_err-shown.ensures)
 
-pub returns-then-not-next : goal.returns-then-not-next
-returns-then-not-next c = let x = c.args.text.now in
-    let k = c.args.k in
-    let o = c.args.o in
-    let n = c.args.n in
-    let state = c.args.state in
-    let input = c.args.input in
-    let w = c.args.w in
-    let z = c.requires.0 in
-    let r₁ = c.opened-head.result in
-    let t₁ = c.opened-head.ensures 1 (λ (a : ℕ). row_head k state input) x c.args.at c.head.ensures in
-    let f₁ = not-false r₁.found c.if-not-head.false in
-    let s₁ = goes x 1 (λ (a : ℕ). row_head k state input) (λ (a : ℕ). other_next k o n z state input w) c.args.at (code_fixed (row_head k state input)) (stands-other k o n z x state input w c.args.at c.requires.2 c.requires.3) r₁ t₁ f₁ in
-    let p₂ = (apart_other k o n z state input w c.requires.2).2 r₁.value (t₁.stood f₁).one in
-    let r₂ = c.opened-next.result in
-    let t₂ = c.opened-next.ensures n (λ (v : ℕ). decimal v ++ (32 ∷ [])) x r₁.place c.next.ensures in
-    went_off x (λ (v : ℕ). in_form k o n state w (input + 1)) c.stopped-then-not-next.result r₂.place c.stopped-then-not-next.ensures (leaves x n (λ (v : ℕ). decimal v ++ (32 ∷ [])) (λ (v : ℕ). other_shown k o n z state input w) r₁.place (code_next n z.most_states) s₁ r₂ t₂ p₂ (not-true r₂.found c.if-not-next.true))
-
-pub shown-requires : goal.shown-requires
-shown-requires c = let x = c.args.text.now in
-    let k = c.args.k in
-    let o = c.args.o in
-    let n = c.args.n in
-    let state = c.args.state in
-    let input = c.args.input in
-    let w = c.args.w in
-    let z = c.requires.0 in
-    let r₁ = c.opened-head.result in
-    let t₁ = c.opened-head.ensures 1 (λ (a : ℕ). row_head k state input) x c.args.at c.head.ensures in
-    let f₁ = not-false r₁.found c.if-not-head.false in
-    let s₁ = goes x 1 (λ (a : ℕ). row_head k state input) (λ (a : ℕ). other_next k o n z state input w) c.args.at (code_fixed (row_head k state input)) (stands-other k o n z x state input w c.args.at c.requires.2 c.requires.3) r₁ t₁ f₁ in
-    let p₂ = (apart_other k o n z state input w c.requires.2).2 r₁.value (t₁.stood f₁).one in
-    let r₂ = c.opened-next.result in
-    let t₂ = c.opened-next.ensures n (λ (v : ℕ). decimal v ++ (32 ∷ [])) x r₁.place c.next.ensures in
-    let f₂ = not-false r₂.found c.if-not-next.false in
-    let s₂ = goes x n (λ (v : ℕ). decimal v ++ (32 ∷ [])) (λ (v : ℕ). other_shown k o n z state input w) r₁.place (code_next n z.most_states) s₁ r₂ t₂ f₂ in
-    let p₃ = p₂.2 r₂.value (t₂.stood f₂).one in
-    (s₂.inside, z.most_outputs)
-
-pub returns-then-not-shown : goal.returns-then-not-shown
-returns-then-not-shown c = let x = c.args.text.now in
-    let k = c.args.k in
-    let o = c.args.o in
-    let n = c.args.n in
-    let state = c.args.state in
-    let input = c.args.input in
-    let w = c.args.w in
-    let z = c.requires.0 in
-    let r₁ = c.opened-head.result in
-    let t₁ = c.opened-head.ensures 1 (λ (a : ℕ). row_head k state input) x c.args.at c.head.ensures in
-    let f₁ = not-false r₁.found c.if-not-head.false in
-    let s₁ = goes x 1 (λ (a : ℕ). row_head k state input) (λ (a : ℕ). other_next k o n z state input w) c.args.at (code_fixed (row_head k state input)) (stands-other k o n z x state input w c.args.at c.requires.2 c.requires.3) r₁ t₁ f₁ in
-    let p₂ = (apart_other k o n z state input w c.requires.2).2 r₁.value (t₁.stood f₁).one in
-    let r₂ = c.opened-next.result in
-    let t₂ = c.opened-next.ensures n (λ (v : ℕ). decimal v ++ (32 ∷ [])) x r₁.place c.next.ensures in
-    let f₂ = not-false r₂.found c.if-not-next.false in
-    let s₂ = goes x n (λ (v : ℕ). decimal v ++ (32 ∷ [])) (λ (v : ℕ). other_shown k o n z state input w) r₁.place (code_next n z.most_states) s₁ r₂ t₂ f₂ in
-    let p₃ = p₂.2 r₂.value (t₂.stood f₂).one in
-    let r₃ = c.opened-shown.result in
-    let t₃ = c.opened-shown.ensures 1 (λ (a : ℕ). bits o w) x r₂.place c.shown.ensures in
-    went_off x (λ (v : ℕ). in_form k o n state w (input + 1)) c.stopped-then-not-shown.result r₃.place c.stopped-then-not-shown.ensures (leaves x 1 (λ (a : ℕ). bits o w) (λ (a : ℕ). line_end k o n z state (input + 1) w) r₂.place (code_fixed (bits o w)) s₂ r₃ t₃ p₃ (not-true r₃.found c.if-not-shown.true))
-
-pub fixed-requires : goal.fixed-requires
-fixed-requires c = let x = c.args.text.now in
-    let k = c.args.k in
-    let o = c.args.o in
-    let n = c.args.n in
-    let state = c.args.state in
-    let input = c.args.input in
-    let w = c.args.w in
-    let z = c.requires.0 in
-    let r₁ = c.opened-head.result in
-    let t₁ = c.opened-head.ensures 1 (λ (a : ℕ). row_head k state input) x c.args.at c.head.ensures in
-    let f₁ = not-false r₁.found c.if-not-head.false in
-    let s₁ = goes x 1 (λ (a : ℕ). row_head k state input) (λ (a : ℕ). other_next k o n z state input w) c.args.at (code_fixed (row_head k state input)) (stands-other k o n z x state input w c.args.at c.requires.2 c.requires.3) r₁ t₁ f₁ in
-    let p₂ = (apart_other k o n z state input w c.requires.2).2 r₁.value (t₁.stood f₁).one in
-    let r₂ = c.opened-next.result in
-    let t₂ = c.opened-next.ensures n (λ (v : ℕ). decimal v ++ (32 ∷ [])) x r₁.place c.next.ensures in
-    let f₂ = not-false r₂.found c.if-not-next.false in
-    let s₂ = goes x n (λ (v : ℕ). decimal v ++ (32 ∷ [])) (λ (v : ℕ). other_shown k o n z state input w) r₁.place (code_next n z.most_states) s₁ r₂ t₂ f₂ in
-    let p₃ = p₂.2 r₂.value (t₂.stood f₂).one in
-    let r₃ = c.opened-shown.result in
-    let t₃ = c.opened-shown.ensures 1 (λ (a : ℕ). bits o w) x r₂.place c.shown.ensures in
-    let f₃ = not-false r₃.found c.if-not-shown.false in
-    let s₃ = goes x 1 (λ (a : ℕ). bits o w) (λ (a : ℕ). line_end k o n z state (input + 1) w) r₂.place (code_fixed (bits o w)) s₂ r₃ t₃ f₃ in
-    let p₄ = p₃.2 r₃.value (t₃.stood f₃).one in
-    s₃.inside
+pub returns-in_err-line : goal.returns-in_err-line
+returns-in_err-line c =
+    let z = c.args.z in
+    let a₁ = at-other z.inputs z.outputs z.states c.args.z.fit c.args.text.now c.args.state c.args.input c.args.w c.args.at c.requires.1 c.requires.2 in
+    let p = err_from_is_err_and c.from_residual-in_err-line.result c.from_residual-in_err-line.ensures.1 in
+    rw (p.1, p.2) (stops (moves (moves (moves a₁ c.in_ok-head.ensures) c.in_ok-next.ensures) c.in_ok-shown.ensures) c.in_err-line.ensures)
 
 pub returns : goal.returns
-returns c = let x = c.args.text.now in
-    let k = c.args.k in
-    let o = c.args.o in
-    let n = c.args.n in
-    let state = c.args.state in
-    let input = c.args.input in
-    let w = c.args.w in
-    let z = c.requires.0 in
-    let r₁ = c.opened-head.result in
-    let t₁ = c.opened-head.ensures 1 (λ (a : ℕ). row_head k state input) x c.args.at c.head.ensures in
-    let f₁ = not-false r₁.found c.if-not-head.false in
-    let s₁ = goes x 1 (λ (a : ℕ). row_head k state input) (λ (a : ℕ). other_next k o n z state input w) c.args.at (code_fixed (row_head k state input)) (stands-other k o n z x state input w c.args.at c.requires.2 c.requires.3) r₁ t₁ f₁ in
-    let p₂ = (apart_other k o n z state input w c.requires.2).2 r₁.value (t₁.stood f₁).one in
-    let r₂ = c.opened-next.result in
-    let t₂ = c.opened-next.ensures n (λ (v : ℕ). decimal v ++ (32 ∷ [])) x r₁.place c.next.ensures in
-    let f₂ = not-false r₂.found c.if-not-next.false in
-    let s₂ = goes x n (λ (v : ℕ). decimal v ++ (32 ∷ [])) (λ (v : ℕ). other_shown k o n z state input w) r₁.place (code_next n z.most_states) s₁ r₂ t₂ f₂ in
-    let p₃ = p₂.2 r₂.value (t₂.stood f₂).one in
-    let r₃ = c.opened-shown.result in
-    let t₃ = c.opened-shown.ensures 1 (λ (a : ℕ). bits o w) x r₂.place c.shown.ensures in
-    let f₃ = not-false r₃.found c.if-not-shown.false in
-    let s₃ = goes x 1 (λ (a : ℕ). bits o w) (λ (a : ℕ). line_end k o n z state (input + 1) w) r₂.place (code_fixed (bits o w)) s₂ r₃ t₃ f₃ in
-    let p₄ = p₃.2 r₃.value (t₃.stood f₃).one in
-    let r₄ = c.opened-end.result in
-    let t₄ = c.opened-end.ensures 1 (λ (a : ℕ). 10 ∷ []) x r₃.place c.fixed.ensures in
-    record { on = λ e. goes x 1 (λ (a : ℕ). 10 ∷ []) (λ (a : ℕ). in_form k o n state w (input + 1)) r₃.place (code_fixed (10 ∷ [])) s₃ r₄ t₄ e; off = λ e. leaves x 1 (λ (a : ℕ). 10 ∷ []) (λ (a : ℕ). in_form k o n state w (input + 1)) r₃.place (code_fixed (10 ∷ [])) s₃ r₄ t₄ p₄ e }
+returns c =
+    let z = c.args.z in
+    let a₁ = at-other z.inputs z.outputs z.states c.args.z.fit c.args.text.now c.args.state c.args.input c.args.w c.args.at c.requires.1 c.requires.2 in
+    (moves (moves (moves (moves a₁ c.in_ok-head.ensures) c.in_ok-next.ensures) c.in_ok-shown.ensures) c.in_ok-line.ensures).stands

@@ -10,22 +10,22 @@ use Rattle.kiss_law.specs.Text.{decimal}
 use Rattle.kiss_write.proofs.heading_length.Goals as goal
 
 pub overflow_mul-rows : goal.overflow_mul-rows
-overflow_mul-rows c = let q : c.args.n * c.pow2.result ≤ 16384 = subst (λ (x : ℕ). c.args.n * x ≤ 16384) (sym c.pow2.ensures.0) (few-rows c.args.k c.args.n c.requires.inputs c.requires.states) in omega arith
+overflow_mul-rows c = let q : c.args.z.states * c.pow2.result ≤ 16384 = subst (λ (x : ℕ). c.args.z.states * x ≤ 16384) (sym c.pow2.ensures.0) (few-rows c.args.z.inputs c.args.z.states c.requires.inputs c.requires.states) in omega arith
 
 pub overflow_add-result : goal.overflow_add-result
-overflow_add-result c = omega (arith, c.digits.ensures, length-decimal 5 c.args.k, length-decimal 5 c.args.o, length-decimal 5 c.args.n, length-decimal 5 (c.args.n * c.pow2.result))
+overflow_add-result c = omega (arith, c.digits.ensures, length-decimal 5 c.args.z.inputs, length-decimal 5 c.args.z.outputs, length-decimal 5 c.args.z.states, length-decimal 5 (c.args.z.states * c.pow2.result))
 
 pub overflow_add-result-2 : goal.overflow_add-result-2
-overflow_add-result-2 c = omega (arith, c.digits.ensures, c.digits-2.ensures, length-decimal 5 c.args.k, length-decimal 5 c.args.o, length-decimal 5 c.args.n, length-decimal 5 (c.args.n * c.pow2.result))
+overflow_add-result-2 c = omega (arith, c.digits.ensures, c.digits-2.ensures, length-decimal 5 c.args.z.inputs, length-decimal 5 c.args.z.outputs, length-decimal 5 c.args.z.states, length-decimal 5 (c.args.z.states * c.pow2.result))
 
 pub digits-requires-3 : goal.digits-requires-3
-digits-requires-3 c = let q : c.args.n * c.pow2.result ≤ 16384 = subst (λ (x : ℕ). c.args.n * x ≤ 16384) (sym c.pow2.ensures.0) (few-rows c.args.k c.args.n c.requires.inputs c.requires.states) in omega arith
+digits-requires-3 c = let q : c.args.z.states * c.pow2.result ≤ 16384 = subst (λ (x : ℕ). c.args.z.states * x ≤ 16384) (sym c.pow2.ensures.0) (few-rows c.args.z.inputs c.args.z.states c.requires.inputs c.requires.states) in omega arith
 
 pub overflow_add-result-3 : goal.overflow_add-result-3
-overflow_add-result-3 c = omega (arith, c.digits.ensures, c.digits-2.ensures, c.digits-3.ensures, length-decimal 5 c.args.k, length-decimal 5 c.args.o, length-decimal 5 c.args.n, length-decimal 5 (c.args.n * c.pow2.result))
+overflow_add-result-3 c = omega (arith, c.digits.ensures, c.digits-2.ensures, c.digits-3.ensures, length-decimal 5 c.args.z.inputs, length-decimal 5 c.args.z.outputs, length-decimal 5 c.args.z.states, length-decimal 5 (c.args.z.states * c.pow2.result))
 
 pub overflow_add-result-4 : goal.overflow_add-result-4
-overflow_add-result-4 c = omega (arith, c.digits.ensures, c.digits-2.ensures, c.digits-3.ensures, c.digits-4.ensures, length-decimal 5 c.args.k, length-decimal 5 c.args.o, length-decimal 5 c.args.n, length-decimal 5 (c.args.n * c.pow2.result))
+overflow_add-result-4 c = omega (arith, c.digits.ensures, c.digits-2.ensures, c.digits-3.ensures, c.digits-4.ensures, length-decimal 5 c.args.z.inputs, length-decimal 5 c.args.z.outputs, length-decimal 5 c.args.z.states, length-decimal 5 (c.args.z.states * c.pow2.result))
 
 pub returns : goal.returns
-returns c = let z = ap (λ (x : ℕ). length (decimal (c.args.n * x))) c.pow2.ensures.0 in omega (arith, length-heading c.args.k c.args.o c.args.n, c.digits.ensures, c.digits-2.ensures, c.digits-3.ensures, c.digits-4.ensures, length-decimal 5 c.args.k, length-decimal 5 c.args.o, length-decimal 5 c.args.n, length-decimal 5 (c.args.n * c.pow2.result))
+returns c = let z = ap (λ (x : ℕ). length (decimal (c.args.z.states * x))) c.pow2.ensures.0 in omega (arith, length-heading c.args.z.inputs c.args.z.outputs c.args.z.states, c.digits.ensures, c.digits-2.ensures, c.digits-3.ensures, c.digits-4.ensures, length-decimal 5 c.args.z.inputs, length-decimal 5 c.args.z.outputs, length-decimal 5 c.args.z.states, length-decimal 5 (c.args.z.states * c.pow2.result))

@@ -8,16 +8,13 @@ use Rattle.kiss_write.specs.Held.{held_state, held_rows}
 use Rattle.kiss_write.proofs.put_rows.Goals as goal
 
 pub loop-state-init : goal.loop-state-init
-loop-state-init c = under_start c.args.text.now c.args.at (held_rows (stream_in c.args.file.now) c.args.k c.args.o c.args.n 0) c.requires.1
+loop-state-init c = under_start c.args.text.now c.args.at (held_rows (stream_in c.args.sound.file.now) c.args.sound.sizes.inputs c.args.sound.sizes.outputs c.args.sound.sizes.states 0) c.requires
 
 pub put_state-end-requires : goal.put_state-end-requires
-put_state-end-requires c = (c.requires.0, c.loop-state-test.true, under_room (held_state (stream_in c.args.file.now) c.args.k c.args.o c.loop-state.state 0) (held_rows (stream_in c.args.file.now) c.args.k c.args.o c.args.n (c.loop-state.state + 1)) c.requires.1 (under_as (rows_more (stream_in c.args.file.now) c.args.k c.args.o c.args.n c.loop-state.state c.loop-state-test.true) c.loop-state.invariant))
+put_state-end-requires c = (c.loop-state-test.true, under_room (held_state (stream_in c.args.sound.file.now) c.args.sound.sizes.inputs c.args.sound.sizes.outputs c.loop-state.state 0) (held_rows (stream_in c.args.sound.file.now) c.args.sound.sizes.inputs c.args.sound.sizes.outputs c.args.sound.sizes.states (c.loop-state.state + 1)) c.requires (under_as (rows_more (stream_in c.args.sound.file.now) c.args.sound.sizes.inputs c.args.sound.sizes.outputs c.args.sound.sizes.states c.loop-state.state c.loop-state-test.true) c.loop-state.invariant))
 
 pub loop-state-preserved : goal.loop-state-preserved
-loop-state-preserved c = under_on (held_state (stream_in c.args.file.now) c.args.k c.args.o c.loop-state.state 0) (held_rows (stream_in c.args.file.now) c.args.k c.args.o c.args.n (c.loop-state.state + 1)) c.requires.1 (under_as (rows_more (stream_in c.args.file.now) c.args.k c.args.o c.args.n c.loop-state.state c.loop-state-test.true) c.loop-state.invariant) c.put_state-end.ensures
-
-pub shape_of-text : goal.shape_of-text
-shape_of-text c = c.loop-state.invariant.put.long
+loop-state-preserved c = under_on (held_state (stream_in c.args.sound.file.now) c.args.sound.sizes.inputs c.args.sound.sizes.outputs c.loop-state.state 0) (held_rows (stream_in c.args.sound.file.now) c.args.sound.sizes.inputs c.args.sound.sizes.outputs c.args.sound.sizes.states (c.loop-state.state + 1)) c.requires (under_as (rows_more (stream_in c.args.sound.file.now) c.args.sound.sizes.inputs c.args.sound.sizes.outputs c.args.sound.sizes.states c.loop-state.state c.loop-state-test.true) c.loop-state.invariant) c.put_state-end.ensures
 
 pub returns : goal.returns
-returns c = under_end (under_as (rows_over (stream_in c.args.file.now) c.args.k c.args.o c.args.n c.loop-state.state c.loop-state-test.false) c.loop-state.invariant)
+returns c = under_end (under_as (rows_over (stream_in c.args.sound.file.now) c.args.sound.sizes.inputs c.args.sound.sizes.outputs c.args.sound.sizes.states c.loop-state.state c.loop-state-test.false) c.loop-state.invariant)

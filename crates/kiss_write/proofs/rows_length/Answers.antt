@@ -8,13 +8,13 @@ use Rattle.file_law.specs.Reading.{stream_in}
 use Rattle.kiss_write.proofs.rows_length.Goals as goal
 
 pub state_length-sum-requires : goal.state_length-sum-requires
-state_length-sum-requires c = (c.requires, c.loop-state-test.true)
+state_length-sum-requires c = c.loop-state-test.true
 
 pub overflow_add-sum : goal.overflow_add-sum
-overflow_add-sum c = omega (arith, c.state_length-sum.ensures, state-length (stream_in c.args.file.now) c.args.k c.args.o c.args.n c.loop-state.state c.loop-state-test.true, rows_short (stream_in c.args.file.now) c.args.k c.args.o c.args.n c.requires.size)
+overflow_add-sum c = omega (arith, c.state_length-sum.ensures, state-length (stream_in c.args.sound.file.now) c.args.sound.sizes.inputs c.args.sound.sizes.outputs c.args.sound.sizes.states c.loop-state.state c.loop-state-test.true, rows_short (stream_in c.args.sound.file.now) c.args.sound.sizes.inputs c.args.sound.sizes.outputs c.args.sound.sizes.states c.args.sound.holds.size)
 
 pub loop-state-preserved : goal.loop-state-preserved
-loop-state-preserved c = omega (arith, c.state_length-sum.ensures, state-length (stream_in c.args.file.now) c.args.k c.args.o c.args.n c.loop-state.state c.loop-state-test.true)
+loop-state-preserved c = omega (arith, c.state_length-sum.ensures, state-length (stream_in c.args.sound.file.now) c.args.sound.sizes.inputs c.args.sound.sizes.outputs c.args.sound.sizes.states c.loop-state.state c.loop-state-test.true)
 
 pub returns : goal.returns
-returns c = let z = ap length (rows_over (stream_in c.args.file.now) c.args.k c.args.o c.args.n c.loop-state.state c.loop-state-test.false) in omega (arith, rows_short (stream_in c.args.file.now) c.args.k c.args.o c.args.n c.requires.size)
+returns c = let z = ap length (rows_over (stream_in c.args.sound.file.now) c.args.sound.sizes.inputs c.args.sound.sizes.outputs c.args.sound.sizes.states c.loop-state.state c.loop-state-test.false) in omega (arith, rows_short (stream_in c.args.sound.file.now) c.args.sound.sizes.inputs c.args.sound.sizes.outputs c.args.sound.sizes.states c.args.sound.holds.size)

@@ -2,28 +2,26 @@
 -- Assumes nothing.
 use native.Mathlib.Omega.{arith}
 use Rattle.kiss_write.proofs.Held.{holds, text-length}
-use Rattle.kiss_write.proofs.Ends.{unwired, short, made}
+use Rattle.kiss_write.proofs.Ends.{short, made}
 use mathlib.Core.Logic.{inl, inr}
 use Rattle.file_law.specs.Reading.{stream_in}
+use Rattle.kiss_law.specs.Kiss as kiss
 use Rattle.kiss_write.proofs.write_sound.Goals as goal
 
-pub returns-then-k-eq0 : goal.returns-then-k-eq0
-returns-then-k-eq0 c = unwired c.args.file.now c.args.text.now c.args.k c.args.o c.args.n c.requires (inl c.if-k-eq0.true) c.refused.result c.refused.ensures
-
-pub returns-then-o-eq0 : goal.returns-then-o-eq0
-returns-then-o-eq0 c = unwired c.args.file.now c.args.text.now c.args.k c.args.o c.args.n c.requires (inr c.if-o-eq0.true) c.refused-then-o-eq0.result c.refused-then-o-eq0.ensures
+pub returns-then-z-eq0 : goal.returns-then-z-eq0
+returns-then-z-eq0 c = elim c.then-z-eq0.either [ inl a ↦ kiss.KissWrites.fifteen c.requires (inl a) | inr b ↦ kiss.KissWrites.fifteen c.requires (inr b.1) ]
 
 pub heading_length-requires : goal.heading_length-requires
-heading_length-requires c = (holds c.args.file.now c.args.k c.args.o c.args.n c.requires).size
+heading_length-requires c = (holds c.args.file.now c.args.z.inputs c.args.z.outputs c.args.z.states c.requires).size
 
-pub rows_length-requires : goal.rows_length-requires
-rows_length-requires c = holds c.args.file.now c.args.k c.args.o c.args.n c.requires
+pub invariant_of-sound : goal.invariant_of-sound
+invariant_of-sound c = record { holds = holds c.args.file.now c.args.z.inputs c.args.z.outputs c.args.z.states c.requires }
 
 pub returns-then-text-length : goal.returns-then-text-length
-returns-then-text-length c = short c.args.file.now c.args.text.now c.args.k c.args.o c.args.n c.requires c.if-k-eq0.false (omega arith) (omega (arith, text-length (stream_in c.args.file.now) c.args.k c.args.o c.args.n, c.heading_length.ensures.0, c.rows_length.ensures.0)) c.refused-then-text-length.result c.refused-then-text-length.ensures
+returns-then-text-length c = short c.args.file.now c.args.text.now c.args.z.inputs c.args.z.outputs c.args.z.states c.requires (omega arith) (omega arith) (omega (arith, text-length (stream_in c.args.file.now) c.args.z.inputs c.args.z.outputs c.args.z.states, c.heading_length.ensures.0, c.rows_length.ensures.0))
 
 pub put_text-requires : goal.put_text-requires
-put_text-requires c = (holds c.args.file.now c.args.k c.args.o c.args.n c.requires, omega (arith, text-length (stream_in c.args.file.now) c.args.k c.args.o c.args.n, c.heading_length.ensures.0, c.rows_length.ensures.0))
+put_text-requires c = omega (arith, text-length (stream_in c.args.file.now) c.args.z.inputs c.args.z.outputs c.args.z.states, c.heading_length.ensures.0, c.rows_length.ensures.0)
 
 pub returns : goal.returns
-returns c = made c.args.file.now c.args.text.now c.args.k c.args.o c.args.n c.requires _ c.if-k-eq0.false (omega arith) (omega (arith, text-length (stream_in c.args.file.now) c.args.k c.args.o c.args.n, c.heading_length.ensures.0, c.rows_length.ensures.0)) (omega (arith, text-length (stream_in c.args.file.now) c.args.k c.args.o c.args.n, c.heading_length.ensures.0, c.rows_length.ensures.0)) c.put_text.ensures
+returns c = made c.args.file.now c.args.text.now c.args.z.inputs c.args.z.outputs c.args.z.states c.requires _ (omega arith) (omega arith) (omega (arith, text-length (stream_in c.args.file.now) c.args.z.inputs c.args.z.outputs c.args.z.states, c.heading_length.ensures.0, c.rows_length.ensures.0)) (omega (arith, text-length (stream_in c.args.file.now) c.args.z.inputs c.args.z.outputs c.args.z.states, c.heading_length.ensures.0, c.rows_length.ensures.0)) c.put_text.ensures

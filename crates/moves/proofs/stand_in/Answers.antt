@@ -2,25 +2,17 @@
 -- Assumes nothing.
 use mathlib.Core.Path.{sym, ap, ◌∙◌}
 use Prim.Native.Nat.{ℕ, ◌^◌, ◌≤◌, ◌<◌}
-use native.Mathlib.Omega.{arith}
 use Rattle.file_law.specs.Answer.{gives}
 use Rattle.file_law.specs.Reading.{stream_in, outputs_at}
-use Rattle.file_law.proofs.Tests.{outputs-inside}
 use Rattle.file_law.proofs.Steps.{stand_spare, stand_clear}
-use Rattle.moves.specs.Meaning.{meaning}
 use Rattle.moves.proofs.stand_in.Goals as goal
-
-pub outputs_at-outputs-requires : goal.outputs_at-outputs-requires
-outputs_at-outputs-requires c = let a = c.args in
-    let z = c.requires.0 in
-    (z.size.inputs, omega arith, rw z.exact (outputs-inside a.k a.state a.n c.requires.1))
 
 pub returns-then-pow2-outputs : goal.returns-then-pow2-outputs
 returns-then-pow2-outputs c = let a = c.args in
-    let h : 2 ^ a.o ≤ outputs_at (stream_in a.file.now) a.k a.state = rw (← c.pow2.ensures.0, ← c.outputs_at-outputs.ensures.0) c.if-pow2-outputs.true in
-    ap meaning c.refused.ensures ∙ sym (stand_spare (stream_in a.file.now) a.k a.o a.state h)
+    let h : 2 ^ a.size.outputs ≤ outputs_at (stream_in a.file.now) a.size.inputs a.state = rw (← c.pow2.ensures.0, ← c.outputs_at-outputs.ensures.0) c.if-pow2-outputs.true in
+    sym (stand_spare (stream_in a.file.now) a.size.inputs a.size.outputs a.state h)
 
 pub returns : goal.returns
 returns c = let a = c.args in
-    let h : outputs_at (stream_in a.file.now) a.k a.state < 2 ^ a.o = rw (← c.pow2.ensures.0, ← c.outputs_at-outputs.ensures.0) c.if-pow2-outputs.false in
-    ap (λ (x : ℕ). gives (record { state = a.state; outputs = x })) c.outputs_at-outputs.ensures.0 ∙ sym (stand_clear (stream_in a.file.now) a.k a.o a.state h)
+    let h : outputs_at (stream_in a.file.now) a.size.inputs a.state < 2 ^ a.size.outputs = rw (← c.pow2.ensures.0, ← c.outputs_at-outputs.ensures.0) c.if-pow2-outputs.false in
+    ap (λ (x : ℕ). gives (record { state = a.state; outputs = x })) c.outputs_at-outputs.ensures.0 ∙ sym (stand_clear (stream_in a.file.now) a.size.inputs a.size.outputs a.state h)

@@ -1,32 +1,27 @@
 -- `reader::content` meets its contract: the shape, and then the rows.
 -- Assumes nothing.
-use mathlib.Core.Path.{◌≡◌, sym, ap, ◌∙◌}
-use Prim.Native.Nat.{◌/◌}
+use mathlib.Core.Path.{sym, ap, ◌∙◌}
 use native.Mathlib.Omega.{arith}
-use lib.ListN.{length}
-use Rattle.file_law.specs.Reading.{stream_in, content_good}
+use Rattle.std.proofs.Common.{Err}
 use Rattle.file_law.proofs.Content.{shaped, unshaped, content_shaped, content_unshaped}
 use Rattle.reader.specs.Meaning.{meaning}
 use Rattle.reader.proofs.content.Goals as goal
-use Rattle.reader.proofs.content.Goals.{After-rows_good}
+use Rattle.reader.proofs.content.Goals.{in_default-via-in-Ok+else-are_good, in_default-via-in_default}
 
-tested : (c : After-rows_good) → content_good (stream_in c.args.file.now) (length c.args.file.now / 512) ≡ c.rows_good.result
-tested c = content_shaped (shaped _ (sym (ap meaning c.in-Sound.is) ∙ c.shape-shaped.ensures)) ∙ sym c.rows_good.ensures
+pub invariant_of-are_good : goal.invariant_of-are_good
+invariant_of-are_good c =
+    let s = shaped _ c.in-Ok.ensures in
+    record { room = record { inputs = s.size.inputs; states = s.size.states; blocks = omega (arith, s.exact) }; outputs = s.size.outputs }
+
+pub returns-in-Ok : goal.returns-in-Ok
+returns-in-Ok c =
+    let s = shaped _ c.in-Ok.ensures in
+    simp (content_shaped s ∙ sym c.are_good.ensures ∙ c.if-are_good.true, s.stated.inputs, s.stated.outputs, s.stated.states)
 
 pub returns-in_default : goal.returns-in_default
 returns-in_default c =
-    let odd = unshaped _ (sym (ap meaning c.in_default.is) ∙ c.shape-shaped.ensures) in
-    ap meaning c.refused.ensures ∙ simp (content_unshaped _ c.requires odd)
-
-pub rows_good-requires : goal.rows_good-requires
-rows_good-requires c =
-    let s = shaped _ (sym (ap meaning c.in-Sound.is) ∙ c.shape-shaped.ensures) in
-    (record { inputs = s.size.inputs; states = s.size.states; blocks = omega (arith, s.exact) }, s.size.outputs)
-
-pub returns-then-not-rows_good : goal.returns-then-not-rows_good
-returns-then-not-rows_good c = ap meaning c.refused-then-not-rows_good.ensures ∙ simp (tested (goal.at.returns-then-not-rows_good c).After-rows_good ∙ c.if-not-rows_good.true)
-
-pub returns : goal.returns
-returns c =
-    let s = (shaped _ (sym (ap meaning c.in-Sound.is) ∙ c.shape-shaped.ensures)).stated in
-    simp (tested (goal.at.returns c).After-rows_good ∙ c.if-not-rows_good.false, s.inputs, s.outputs, s.states)
+    ap (λ r. meaning (Err r)) c.whole.ensures
+    ∙ elim c.in_default.branch [
+      | in_default-via-in-Ok+else-are_good w ↦ simp (content_shaped (shaped _ w.in-Ok.ensures) ∙ sym w.are_good.ensures ∙ w.if-are_good.false)
+      | in_default-via-in_default w ↦ simp (content_unshaped _ c.requires (unshaped _ w.in_default.ensures))
+    ]

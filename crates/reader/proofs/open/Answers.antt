@@ -5,9 +5,9 @@ use Prim.Native.Nat.{◌/◌}
 use native.Mathlib.Omega.{arith}
 use mathlib.Core.Bool.{true}
 use lib.ListN.{length}
+use Rattle.std.proofs.Common.{Err}
 use Rattle.file_law.specs.Reading.{length_good, block_good, blocks_answer, open_answer}
 use Rattle.file_law.proofs.Every.{none-met, one-met}
-use Rattle.file_law.proofs.Tests.{Whole, whole}
 use Rattle.reader.specs.Meaning.{meaning}
 use Rattle.reader.proofs.open.Goals as goal
 use Rattle.reader.proofs.open.Goals.{Else-not-length_good}
@@ -15,36 +15,20 @@ use Rattle.reader.proofs.open.Goals.{Else-not-length_good}
 good : (c : Else-not-length_good) → length_good (length c.args.file.now) ≡ true
 good c = sym c.length_good.ensures ∙ c.if-not-length_good.false
 
-sizes : (c : Else-not-length_good) → Whole (length c.args.file.now)
-sizes c = whole _ (good c)
-
 pub returns-then-not-length_good : goal.returns-then-not-length_good
 unfolding open_answer
-returns-then-not-length_good c = ap meaning c.refused.ensures ∙ simp (sym c.length_good.ensures ∙ c.if-not-length_good.true)
+returns-then-not-length_good c = ap (λ r. meaning (Err r)) c.whole.ensures ∙ simp (sym c.length_good.ensures ∙ c.if-not-length_good.true)
 
-pub returns-then-bad-total : goal.returns-then-bad-total
+pub returns-in-Some : goal.returns-in-Some
 unfolding open_answer blocks_answer
-returns-then-bad-total c =
+returns-in-Some c =
     let f = c.args.file.now in
-    let bad = c.first_bad-bad.ensures.0 in
-    ap meaning c.refused-then-bad-total.ensures
-    ∙ simp (good (goal.at.returns-then-bad-total c).Else-not-length_good, c.fault.ensures, bad, one-met (block_good f (length f / 512)) (length f / 512) 0 (omega arith))
+    let bad = c.in-Some.ensures.0 in
+    simp (good (goal.at.returns-in-Some c).Else-not-length_good, c.fault.ensures, bad, one-met (block_good f (length f / 512)) (length f / 512) 0 (omega (arith, c.in-Some.ensures.1)))
 
-pub returns : goal.returns
+pub returns-in-None : goal.returns-in-None
 unfolding open_answer blocks_answer
-returns c =
+returns-in-None c =
     let f = c.args.file.now in
     c.content.ensures
-    ∙ simp (good (goal.at.returns c).Else-not-length_good, none-met (block_good f (length f / 512)) (length f / 512) 0 (omega arith))
-
-pub overflow_cast-total : goal.overflow_cast-total
-overflow_cast-total c = omega (arith, (sizes (goal.at.overflow_cast-total c).Else-not-length_good).few)
-
-pub first_bad-bad-requires : goal.first_bad-bad-requires
-first_bad-bad-requires c = ((sizes (goal.at.first_bad-bad-requires c).Else-not-length_good).few, omega arith)
-
-pub fault-requires : goal.fault-requires
-fault-requires c = (omega (arith, (sizes (goal.at.fault-requires c).Else-not-length_good).few), omega arith)
-
-pub content-requires : goal.content-requires
-content-requires c = good (goal.at.content-requires c).Else-not-length_good
+    ∙ simp (good (goal.at.returns-in-None c).Else-not-length_good, none-met (block_good f (length f / 512)) (length f / 512) 0 (omega (arith, c.in-None.ensures.0)))

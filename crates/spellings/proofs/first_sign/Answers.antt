@@ -9,16 +9,16 @@ use Rattle.spellings.specs.Search.{opening, like_from}
 use Rattle.spellings.proofs.Entries.{first-signs, sign_low, sign_high}
 use Rattle.spellings.proofs.first_sign.Goals as goal
 
-pub returns-then-c-lt32 : goal.returns-then-c-lt32
-returns-then-c-lt32 c = sign_low c.args.c c.if-c-lt32.true
+pub returns-in_default : goal.returns-in_default
+returns-in_default c = sign_low c.args.c (omega arith)
 
 pub sign_in-requires : goal.sign_in-requires
 unfolding every first_not bytes signs reserved spellings spelling opening like_from
-sign_in-requires c = (first-signs 32 refl refl, c.if-c-lt32.false, omega arith)
+sign_in-requires c = (first-signs 32 refl refl, omega arith, omega arith)
 
-pub sign_in-requires-then-c-lt128 : goal.sign_in-requires-then-c-lt128
+pub sign_in-requires-in-64-to-127 : goal.sign_in-requires-in-64-to-127
 unfolding every first_not bytes signs reserved spellings spelling opening like_from
-sign_in-requires-then-c-lt128 c = (first-signs 64 refl refl, c.if-c-lt64.false, omega arith)
+sign_in-requires-in-64-to-127 c = (first-signs 64 refl refl, omega arith, omega arith)
 
-pub returns : goal.returns
-returns c = sign_high c.args.c c.if-c-lt128.false
+pub returns-in_default-2 : goal.returns-in_default-2
+returns-in_default-2 c = sign_high c.args.c (omega arith)

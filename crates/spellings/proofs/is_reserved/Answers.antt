@@ -3,17 +3,19 @@
 use mathlib.Core.Path.{sym, ◌∙◌}
 use Prim.Native.Nat.{◌-◌}
 use native.Mathlib.Omega.{arith}
+use borrow.Author.Tests.{ne_eqb}
 use Rattle.spellings.specs.Spelled.{sign_count}
 use Rattle.spellings.proofs.Fitting.{size_of_lem, fits_not, fits_word}
 use Rattle.spellings.proofs.is_reserved.Goals as goal
 
-pub returns-then-wide-e : goal.returns-then-wide-e
-returns-then-wide-e c =
-    let a = c.args in
-    fits_not a.s.now a.at a.e a.k c.requires.3 c.requires.1 c.requires.2 (λ e. c.if-wide-e.true (c.wide.ensures ∙ c.requires.0.told (a.k - sign_count) (omega arith) ∙ size_of_lem a.k c.requires.3 ∙ e))
-
-pub returns : goal.returns
-returns c =
+pub returns-then-from-e : goal.returns-then-from-e
+returns-then-from-e c =
     let a = c.args in
     fits_word a.s.now a.at a.e a.k c.requires.3 c.requires.1 c.requires.2 c.stands.ensures
-    (sym (size_of_lem a.k c.requires.3) ∙ sym (c.requires.0.told (a.k - sign_count) (omega arith)) ∙ sym c.wide.ensures ∙ c.if-wide-e.false)
+    (sym (size_of_lem a.k c.requires.3) ∙ sym (c.requires.0.told (a.k - sign_count) (omega arith)) ∙ sym c.from.ensures ∙ c.if-from-e.true)
+
+pub returns-else-from-e : goal.returns-else-from-e
+returns-else-from-e c =
+    let a = c.args in
+    ne_eqb _ _ c.if-from-e.false
+    ∙ fits_not a.s.now a.at a.e a.k c.requires.3 c.requires.1 c.requires.2 (λ e. c.if-from-e.false (c.from.ensures ∙ c.requires.0.told (a.k - sign_count) (omega arith) ∙ size_of_lem a.k c.requires.3 ∙ e))

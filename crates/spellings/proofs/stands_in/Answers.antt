@@ -12,4 +12,4 @@ pub returns : goal.returns
 returns c =
     let a = c.args in
     row-stands a.row.now a.starts.now a.s.now a.at a.k c.requires.0 c.requires.1
-    (c.stands.ensures ∙ ap₂ (λ (b f : ℕ). begins (drop a.at a.s.now) (part a.row.now b f)) c.wide-b.ensures c.wide-f.ensures)
+    (c.stands.ensures ∙ ap₂ (λ (b f : ℕ). begins (drop a.at a.s.now) (part a.row.now b f)) c.from-b.ensures c.from-f.ensures)

@@ -4,23 +4,19 @@ use native.Mathlib.Omega.{arith}
 use Rattle.words.proofs.NameLaws.{name-some, name-inside, reserved-word, name-short, name-long}
 use Rattle.words.proofs.name_at.Goals as goal
 
-pub reserved-k-requires : goal.reserved-k-requires
-reserved-k-requires c =
+pub reserved-requires : goal.reserved-requires
+reserved-requires c =
     let a = c.args in
     (name-some a.s.now a.at c.requires.0 c.requires.1 _ c.name_end-end.ensures, name-inside a.s.now a.at c.requires.0 c.requires.1 _ c.name_end-end.ensures)
 
-pub returns-then-k-lt-SPELLINGS : goal.returns-then-k-lt-SPELLINGS
-returns-then-k-lt-SPELLINGS c =
-    reserved-word c.args.s.now c.args.at c.requires.0 c.requires.1 _ c.name_end-end.ensures _ c.reserved-k.ensures (omega arith)
+pub returns-in-Some : goal.returns-in-Some
+returns-in-Some c =
+    reserved-word c.args.s.now c.args.at c.requires.0 c.requires.1 _ c.name_end-end.ensures c.in-Some.ensures
 
-pub overflow_sub-end : goal.overflow_sub-end
-overflow_sub-end c =
-    omega (arith, name-some c.args.s.now c.args.at c.requires.0 c.requires.1 _ c.name_end-end.ensures)
-
-pub returns-then-end-at-le16 : goal.returns-then-end-at-le16
-returns-then-end-at-le16 c =
-    name-short c.args.s.now c.args.at c.requires.0 c.requires.1 _ c.name_end-end.ensures _ c.reserved-k.ensures (omega arith) (omega arith)
+pub returns-then-end-at-le-LONGEST_NAME : goal.returns-then-end-at-le-LONGEST_NAME
+returns-then-end-at-le-LONGEST_NAME c =
+    name-short c.args.s.now c.args.at c.requires.0 c.requires.1 _ c.name_end-end.ensures c.in_default.ensures (omega arith)
 
 pub returns : goal.returns
 returns c =
-    name-long c.args.s.now c.args.at c.requires.0 c.requires.1 _ c.name_end-end.ensures _ c.reserved-k.ensures (omega arith) (omega arith)
+    name-long c.args.s.now c.args.at c.requires.0 c.requires.1 _ c.name_end-end.ensures c.in_default.ensures (omega arith)

@@ -1,15 +1,11 @@
 -- `words::stop_from` meets its contract: the words from `from` on stop where the words from `place` on do.
 -- Assumes nothing.
-use mathlib.Core.Path.{refl}
 use native.Mathlib.Omega.{arith}
 use Rattle.words.proofs.Walk.{sound, stop-past, stop-later, stop-here, stop-nowhere}
 use Rattle.words.proofs.stop_from.Goals as goal
 
 pub returns-then-s-place : goal.returns-then-s-place
 returns-then-s-place c = let a = c.args in stop-past a.s.now a.place (omega arith)
-
-pub loop-w-init : goal.loop-w-init
-loop-w-init c = (omega arith, refl)
 
 pub loop-w-smaller : goal.loop-w-smaller
 loop-w-smaller c =

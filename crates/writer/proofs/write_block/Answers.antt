@@ -32,5 +32,6 @@ returns c =
     let a = c.args in
     let room : 512 * a.number + 512 ≤ length a.file.now = omega arith in
     let block = block_of a.number a.total a.rest.now in
-    back a.file.now c.fill_block.new.block block (512 * a.number) c.fill_block.ensures (length_block a.number a.total a.rest.now)
+    ap (λ (n : ℕ). put_mid (512 * n) (512 * n + 512 - 512 * n) a.file.now c.fill_block.new.block) c.from-start.ensures
+    ∙ back a.file.now c.fill_block.new.block block (512 * a.number) c.fill_block.ensures (length_block a.number a.total a.rest.now)
     ∙ sym (with_room a.file.now a.number a.total a.rest.now room)

@@ -1,13 +1,13 @@
 -- `reader::blocks::fault` meets its contract: number and total before the check.
 -- Assumes nothing.
-use mathlib.Core.Path.{sym, ◌∙◌}
+use Rattle.std.proofs.Common.{arith}
 use Rattle.file_law.specs.Reading.{block_fault}
 use Rattle.reader.proofs.blocks.fault.Goals as goal
 
-pub returns-then-not-number_good : goal.returns-then-not-number_good
+pub returns-then-number_good : goal.returns-then-number_good
 unfolding block_fault
-returns-then-not-number_good c = simp (sym c.number_good.ensures ∙ c.if-not-number_good.true)
+returns-then-number_good c = grind arith
 
-pub returns : goal.returns
+pub returns-else-number_good : goal.returns-else-number_good
 unfolding block_fault
-returns c = simp (sym c.number_good.ensures ∙ c.if-not-number_good.false)
+returns-else-number_good c = grind arith

@@ -1,13 +1,9 @@
--- `words::scan::value` meets its contract: with what is left, the value so far comes to the whole, up to the cap.
+-- `words::scan::value` meets its contract: the value so far is that of the digits so far, up to the cap.
 -- Assumes nothing.
-use mathlib.Core.Path.{◌≡◌}
-use Prim.Native.Nat.{◌-◌, ◌≤◌}
-use Rattle.language.specs.Words.{value_from, value_of}
-use Rattle.words.specs.Runs.{part, cap}
+use Rattle.std.proofs.Common.{◌≡◌, take}
+use Rattle.language.specs.Words.{value_of}
+use Rattle.words.specs.Runs.{cap}
 use Rattle.words.proofs.scan.value.Given as goal
 
-abbrev pub invariant-loop-i : goal.invariant-loop-i
-invariant-loop-i l = (l.v ≤ 65536) × (cap (value_from l.v (part l.s l.i l.e)) ≡ cap (value_of (part l.s l.a l.e)))
-
-abbrev pub decreases-loop-i : goal.decreases-loop-i
-decreases-loop-i l = l.e - l.i
+abbrev pub invariant-loop-c : goal.invariant-loop-c
+invariant-loop-c l = l.v ≡ cap (value_of (take l.c-index l.digits))

@@ -1,7 +1,0 @@
--- `reader::refused` meets its contract.
--- Assumes nothing.
-use mathlib.Core.Path.{refl}
-use Rattle.reader.proofs.refused.Goals as goal
-
-pub returns : goal.returns
-returns c = refl
