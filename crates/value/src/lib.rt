@@ -122,6 +122,8 @@ fn leaf(t: &Tree, r: Reads, j: u16) -> i64
 // The operator and operands of a part of a row of `+` and `-`.
 pub type Added = (Sum, u16, u16);
 
+// The hints: without them mast takes a tenth more instructions a clock (rustc over the same bodies, contracts left out).
+#[inline]
 fn row_of(o: Sum, a: u16, b: u16) -> Option<Added>
     ensures { result ≡ row_of o a b }
 {
@@ -131,6 +133,7 @@ fn row_of(o: Sum, a: u16, b: u16) -> Option<Added>
     }
 }
 
+#[inline]
 fn term_of(k: Kind) -> Option<Added>
     ensures { result ≡ term_of k }
 {
@@ -140,6 +143,7 @@ fn term_of(k: Kind) -> Option<Added>
     }
 }
 
+#[inline]
 pub fn term_at(t: &Tree, j: u16) -> Option<Added>
     ensures { result ≡ term_of (kind_at t.now j) }
 {
