@@ -9,6 +9,9 @@ use nodes::Tree;
 use runs::{Buffer, Entry, How};
 use value::Reads;
 
+// A clock's fuel: three for each of 512 statements and case tests.
+pub const FUEL: u16 = 1536;
+
 #[derive(Clone, Copy)]
 pub struct State {
     pub entries: [Entry; 8],
@@ -65,6 +68,6 @@ pub fn step(t: &Tree, n: u16, left: u16, s: State, input: u32) -> Clocked
     let h = resume::list(t, r, 0, n, left, 0, 8, m, old, &mut o);
     Clocked {
         state: settled(&o, h, s.word),
-        looked: o.looked % 64,
+        looked: (o.looked % 64) as u8,
     }
 }

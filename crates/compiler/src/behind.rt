@@ -6,10 +6,11 @@ ghost use Rattle.search.specs.Machine.{machine_in};
 ghost use Rattle.search.specs.Going.{Sized, Searched};
 ghost use Rattle.files.specs.Written.{stream_from, Small, Wrote};
 
+use nodes::Tree;
 use search::Task;
 use stream::sizes::Sizes;
 
-pub fn search(tree: &[u8; 16384], work: &mut [u8], at: usize, task: Task) -> Option<usize>
+pub fn search(tree: &Tree, work: &mut [u8], at: usize, task: Task) -> Option<usize>
     requires { Ready tree.now task.count task.left × Sized (machine_in tree.now task) task.room (drop at work.old) × (0 < task.room) × (at ≤ length work.old) }
     ensures { Searched (machine_in tree.now task) task.room (drop at work.old) result (drop at work.new) × (length work.new ≡ length work.old) }
 {

@@ -6,15 +6,13 @@ ghost use Rattle.stored.specs.Stored.{Stored};
 ghost use Rattle.language.specs.Promise.{Compiles, Ready};
 ghost use Rattle.compiler.specs.Answered.{lent, ended, EndsSo};
 
+use nodes::Tree;
 use refusals::{Cause, Refusal};
 use search::Task;
 use source::Program;
 use stream::sizes::{Sizes, pow2};
 
 mod behind;
-
-// The clock's fuel: three for each of 512 statements and case tests.
-const FUEL: u16 = 1536;
 
 // The bytes of a tree: the search's part of the work area lies behind them.
 const TREE: usize = 16384;
@@ -29,7 +27,7 @@ pub struct Made {
 // The states and the file of a program that is stored; the work area is free behind its tree.
 fn finish(
     source: &[u8],
-    tree: &[u8; 16384],
+    tree: &Tree,
     p: Program,
     room: u32,
     work: &mut [u8],
@@ -40,7 +38,7 @@ fn finish(
 {
     let task = Task {
         count: p.n,
-        left: FUEL,
+        left: clock::FUEL,
         word: p.word,
         inputs: pow2(p.inputs),
         room: room as usize,

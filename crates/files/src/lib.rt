@@ -1,4 +1,5 @@
 // The table file of what the search found, block by block into the lent buffer.
+// The area and the sizes go side by side: README names `write_file`, which takes them so, and `Small` and `stream_from` name each size.
 #![tactic(auto)]
 
 ghost use Rattle.std.specs.Prelude.{◌≡◌, ℕ, ◌+◌, ◌*◌, ◌%◌, ◌^◌, ◌<◌, length, get_or, drop};

@@ -10,7 +10,7 @@ pub mod follow;
 pub mod list;
 pub mod put;
 
-// `at` stays a number: `told_at` of frames_law/specs/Frames compares it with `no_place`, and theorems up to the compiler's speak of it.
+// `at` stays a number: `told_at` of frames_law/specs/Frames compares it with `no_place`, and `own` of told_law/proofs/Whole is on it.
 // Under which call a text is read: the place told (65,535: the word's own), the frame, how many calls are open, how many procedures can be called, and where the next frame is written.
 #[derive(Clone, Copy)]
 pub struct Under {

@@ -5,16 +5,11 @@ use std::io;
 use std::io::{Input, Print};
 use std::rt::{Env, Files};
 
-// Text to standard output.
-fn text(to: &impl Print, s: &[u8]) -> io::Result<()> {
-    to.write_all(s)
-}
-
 // What a source says: `good`, or `refused N at P`.
 fn answer(to: &impl Print, bytes: &[u8]) -> io::Result<()> {
     match source::check(bytes) {
-        Ok(()) => text(to, b"good\n"),
-        Err(r) => { println!(to; "{r}") }
+        Ok(()) => println!(to; "good"),
+        Err(r) => println!(to; "{r}"),
     }
 }
 
@@ -29,8 +24,8 @@ fn named(rt: &(impl Env + Files + Print), errors: &impl Print, n: usize) -> io::
     let mut path = [0u8; 4096];
     let mut buffer = [0u8; 65536];
     if let Some(given) = input::named(rt, errors, n, b"argument", &mut path, &mut buffer) {
-        text(rt, given.name)?;
-        text(rt, b": ")?;
+        rt.write_all(given.name)?;
+        rt.write_all(b": ")?;
         answer(rt, given.bytes)?;
     }
     Ok(())

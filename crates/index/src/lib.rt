@@ -32,7 +32,7 @@ pub fn hash(s: State) -> usize
     (mixed / 64 % 1024) as usize
 }
 
-// The state's number, or as an error the slot that is free for it.
+// The state's number, or as an error the slot that is free for it. How many states there are goes beside the bytes, as `Indexed` takes it.
 pub fn find(area: &[u8], n: usize, s: State) -> Result<usize, usize>
     requires { Indexed area.now n × (length s.entries ≡ 8) }
     ensures { Looked area.now n s result }

@@ -27,7 +27,7 @@ pub struct Stands {
     pub outputs: u32,
 }
 
-// That a file is `Sized` is asked by each of these, and is no type: README names `move_in`, which may take no narrower one.
+// That a file is `Sized` is asked by each of these, and is no type: PROMISES names `move_in` and `look_in`, which may take no narrower one.
 
 // A state of the table with its outputs, unless a spare bit of them is set.
 fn stand_in(file: &[u8], size: Sizes, state: u32) -> Result<Stands, Refusal<u32>>

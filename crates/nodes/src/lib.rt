@@ -62,7 +62,7 @@ pub enum Change {
     Invert,
 }
 
-// A boolean has the width 0.
+// A boolean has the width 0, as in the bytes: `target_by` of specs/Decode tells it so.
 #[derive(Clone, Copy)]
 pub struct Target {
     pub low: u16,
@@ -157,6 +157,7 @@ impl From<u8> for Link {
     }
 }
 
+// The numbers here and in what_of are the stored bytes' own, as specs/Layout has them.
 #[tactic(auto, unfolding(crate::specs::Layout::kind_of))]
 pub fn kind_of(tag: u8, c: u8, a: u16, b: u16) -> Kind
     ensures { result ≡ kind_of tag c a b }
@@ -265,6 +266,7 @@ pub fn among_at(t: &Tree, i: u16) -> Among
     among_of(node_at(t, i).what)
 }
 
+// This and the three that follow differ in a byte's place: each is one expression, and specs/Layout has a definition for each.
 // How many activities the branch has that begins here.
 #[tactic(auto, unfolding(crate::specs::Layout::width_at))]
 pub fn width_at(t: &Tree, i: u16) -> u8

@@ -5,13 +5,6 @@ ghost use Rattle.parts.specs.Sum as spec;
 
 use crate::Notes;
 
-// The first of two places. It stands for source, which folds two notes by it.
-pub fn least(a: u16, b: u16) -> u16
-    ensures { result ≡ Prim.Native.Nat.min a b }
-{
-    a.min(b)
-}
-
 // One part more, or one too many.
 #[tactic(auto, unfolding(crate::specs::Sum::counted))]
 pub fn counted(n: Notes, p: u16) -> Notes
@@ -30,7 +23,7 @@ pub fn counted(n: Notes, p: u16) -> Notes
     }
 }
 
-// A fault 6 at a place, where there is one. No form takes a field's name, so that the three that follow are each an expression of their own.
+// A fault 6 at a place, where there is one. The three that follow differ in the field alone: a closure for it would be no plainer than the expression.
 #[tactic(auto, unfolding(crate::specs::Sum::at_six))]
 pub fn at_six(n: Notes, yes: bool, p: u16) -> Notes
     ensures { result ≡ spec.at_six n yes p }

@@ -15,8 +15,6 @@ pub fn length_good(n: usize) -> bool
     1 <= n && n % 512 == 0 && n / 512 <= 67
 }
 
-// That block n lies in the file is asked by each of these, and is no type: a type would be built at each call, and taken apart at once.
-
 // Block n has its number, and the total.
 fn number_good(file: &[u8], total: u32, n: u32) -> bool
     requires { (n ≤ most_blocks) × (512 * n + 512 ≤ length file.now) }

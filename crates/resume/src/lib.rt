@@ -1,4 +1,5 @@
 // A statement, a list, cases and branches run over the buffer o from where their activities stand.
+// The calls go down a tree and count no index, and each parameter is named apart, as in start.
 #![tactic(auto)]
 
 ghost use Rattle.std.specs.Prelude.{◌≡◌, ◌+◌, ◌-◌, ◌*◌, ◌<◌, ◌≤◌, eqb, length};
@@ -13,7 +14,6 @@ ghost use Rattle.runs.specs.Buffer.{Open, Comes, Joins};
 ghost use Rattle.runs.specs.Seen.{resume_seen, resume_all_seen, resume_cases_seen, resume_each_seen};
 ghost use Rattle.resume.specs.Stand.{head_shape, resumed_as, Stand};
 
-// The calls go down a tree and count no index, as in start.
 use nodes::{Among, Shape, Tree};
 use runs::{Buffer, Entry, How};
 use value::Reads;

@@ -32,7 +32,7 @@ pub fn read(area: &[u8], i: usize) -> State
     ensures { result ≡ row_in area.now i }
 {
     let at = ROWS_AT + ROW * i;
-    let mut entries = [Entry { place: 0, left: 0 }; 8];
+    let mut entries = [Entry::NOWHERE; 8];
     for e in 0..8 {
         entries[e] = Entry {
             place: bytes::half_at(area, at + 2 * e),

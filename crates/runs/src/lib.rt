@@ -7,7 +7,7 @@ ghost use Rattle.runs.specs.Run.{Run, entry_of, entry_from, window, least_from, 
 ghost use Rattle.runs.specs.Buffer.{gathers, Holds, Comes, Looked, Wiped};
 
 // Where an activity stands: the number of a statement or case test plus 1, or 0, and the clocks left of a delay.
-// rows and index store these two fields as they stand, so nowhere is a place of 0 and no Option.
+// rows stores and index hashes these two fields (`row_in`, `hash_of`), so nowhere is a place of 0 and no Option.
 #[derive(Clone, Copy)]
 pub struct Entry {
     pub place: u16,
@@ -89,12 +89,13 @@ impl How {
 }
 
 // The entries of the next state, the tries of what waits, and the input bits that were looked at.
+// The entries' number stays in the clauses: `long` of `Holds`, `Open` and `Wiped` (specs/Buffer) says it of each buffer.
 #[derive(Clone, Copy)]
 pub struct Buffer {
     pub entries: [Entry; 8],
     pub ones: u32,
     pub zeros: u32,
-    pub looked: u8,
+    pub looked: u32,
 }
 
 impl Buffer {
@@ -125,7 +126,7 @@ impl Buffer {
         requires { length self.old.entries ≡ 8 }
         ensures { Looked m self.old self.new }
     {
-        self.looked |= m;
+        self.looked |= u32::from(m);
     }
 
     // What ended as h goes on with what lies from m to e.

@@ -11,6 +11,7 @@ ghost use Rattle.search.specs.Going.{Sized, Going, InRow, RowDone, Searched};
 ghost use Rattle.search.specs.Masks.{Earlier, StepDone};
 
 use clock::State;
+use nodes::Tree;
 use rows::{next, row};
 
 // What is searched: a tree's statements and case tests, the clock's fuel, the word at the start, the inputs, and the room.
@@ -31,7 +32,7 @@ pub struct Met {
     pub looked: u8,
 }
 
-// An earlier input that x was not told apart from: from input 0 on, each time with the bits that were looked at so far.
+// An earlier input that x was not told apart from, or none: from input 0 on, each time with the bits that were looked at so far.
 fn earlier(masks: &[u8; 64], x: u32) -> Option<u32>
     requires { x < 64 }
     ensures { Earlier masks.now x result }
@@ -62,7 +63,7 @@ fn copy_next(area: &mut [u8], i: usize, x: usize, p: usize)
 
 // A clock: state i, which is s, with input x. None where there are more states than the room.
 fn clocked(
-    tree: &[u8; 16384],
+    tree: &Tree,
     area: &mut [u8],
     task: Task,
     n: usize,
@@ -96,7 +97,7 @@ fn clocked(
 }
 
 // All inputs of state i.
-fn one_row(tree: &[u8; 16384], area: &mut [u8], task: Task, n: usize, i: usize) -> Option<usize>
+fn one_row(tree: &Tree, area: &mut [u8], task: Task, n: usize, i: usize) -> Option<usize>
     requires { Ready tree.now task.count task.left × Going (machine_in tree.now task) task.room area.old n i 0 × (i < n) }
     ensures { RowDone (machine_in tree.now task) task.room area.old i result area.new }
 {
@@ -119,7 +120,7 @@ fn one_row(tree: &[u8; 16384], area: &mut [u8], task: Task, n: usize, i: usize) 
 }
 
 // The number of all reachable states, with their next numbers, or none where they are more than the room.
-pub fn search(tree: &[u8; 16384], area: &mut [u8], task: Task) -> Option<usize>
+pub fn search(tree: &Tree, area: &mut [u8], task: Task) -> Option<usize>
     requires { Ready tree.now task.count task.left × Sized (machine_in tree.now task) task.room area.old × (0 < task.room) }
     ensures { Searched (machine_in tree.now task) task.room area.old result area.new }
 {

@@ -26,7 +26,7 @@ pub struct Program {
     pub word: u32,
 }
 
-// The refusal at its least place, unless there is none.
+// The refusal at its least place, unless there is none: 65,535, as `tell_at` and `no_place` of own_law/specs/Noted have it.
 fn none_at(cause: Cause, place: u16) -> Result<(), Refusal<u32>>
     ensures { fault_in result ≡ tell_at no_place (number_of cause) place none }
 {

@@ -1,4 +1,7 @@
 // A statement, a list, cases and branches run from their start over the buffer o.
+// The calls go down a tree and count no index: each contract says what the definition of that part says, and a loop would
+// repeat it as its invariant. i, e, left and b differ from call to call and the contracts name each: a struct of them would be
+// built anew at every call.
 #![tactic(auto)]
 
 ghost use Rattle.std.specs.Prelude.{◌≡◌, ◌+◌, ◌-◌, ◌*◌, ◌<◌, ◌≤◌};
@@ -11,8 +14,6 @@ ghost use Rattle.value.specs.Read.{reads};
 ghost use Rattle.runs.specs.Buffer.{Open, Comes, Joins};
 ghost use Rattle.runs.specs.Seen.{start_seen, start_all_seen, start_cases_seen, start_each_seen};
 
-// The calls go down a tree and count no index: each contract says what the definition of that part says, and a loop would
-// repeat it as its invariant.
 use nodes::{Among, Tree, What};
 use runs::{Buffer, How};
 use value::Reads;

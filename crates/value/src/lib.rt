@@ -98,6 +98,7 @@ fn decided(o: Link, x: i64) -> bool
     }
 }
 
+// By the stored byte alone, before a part is read.
 fn is_leaf(t: &Tree, j: u16) -> bool
     ensures { result ≡ is_leaf (kind_at t.now j) }
 {

@@ -20,7 +20,7 @@ const LONGEST_NAME: usize = 16;
 const LARGEST_NUMBER: u32 = 65535;
 
 // A word: its kind by number (`kinds`), its place, the place behind it, and a number's value.
-// No enum of 63 kinds: `numbered` and `kind_count` (specs/Kinds), `number-back` and the grammar's `code_of` say kinds by number, and may not change.
+// A kind is a number: a spelling's number gives it by a sum, and it is a byte of the grammar's rows and an index of its tables.
 #[derive(Clone, Copy)]
 pub struct Word {
     pub kind: u8,

@@ -9,7 +9,7 @@ use hand::Here;
 use items::{Marks, Read};
 use parts::leaves::put_half;
 
-// The node i, where it fits: what it is, its place, the number behind it, and four numbers. What it is is the number of its first byte, as the definition put_node takes it: an enum would be turned back into it here, and nowhere read.
+// The node i, where it fits: what it is, its place, the number behind it, and four numbers. What it is is the number of its first byte, as the definition put_node takes it: an enum would be turned back into it here, and `end_for` alone asks for one.
 #[tactic(auto, unfolding(items::specs::Walk::put_node, items::specs::Walk::set_half))]
 fn put_node(t: &mut [u8], i: u16, kind: u8, p: u16, e: u16, a: u16, b: u16, c: u16, d: u16)
     ensures { t.new ≡ put_node t.old i kind p e a b c d }
