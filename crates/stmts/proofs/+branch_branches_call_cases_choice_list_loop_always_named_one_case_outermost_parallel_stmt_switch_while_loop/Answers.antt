@@ -61,25 +61,25 @@ call-enter-e-requires t c =
 
 pub call-list-r-requires : goal.call-list-r-requires
 call-list-r-requires t c =
-    (omega (arith, c.decreases, (wrote_frame c.enter-e.ensures c.if-e.true).3), record { near = (wrote_frame c.enter-e.ensures c.if-e.true).1; listed = still-listed c.enter-e.ensures c.requires.listed; few = omega arith })
-
-pub call-shape_of-t-then-e : goal.call-shape_of-t-then-e
-unfolding beside
-call-shape_of-t-then-e t c =
-    ap (λ (d : Beside). d.size) c.clear.ensures.behind ∙ same_size c.list-r.ensures.on.kept ∙ c.enter-e.ensures.size
-
-pub call-returns-then-e : goal.call-returns-then-e
-call-returns-then-e t c =
-    call-expanded c.requires.near c.requires.listed c.enter-e.ensures c.if-e.true c.list-r.ensures c.clear.ensures c.made.ensures.0 c.made.ensures.1
+    (omega (arith, c.decreases, (wrote_frame c.enter-e.ensures c.in-Some.is).3), record { near = (wrote_frame c.enter-e.ensures c.in-Some.is).1; listed = still-listed c.enter-e.ensures c.requires.listed; few = omega arith })
 
 pub call-shape_of-t : goal.call-shape_of-t
 unfolding beside
 call-shape_of-t t c =
-    same_size c.refused.ensures.kept ∙ same_size (ap beside (wrote_none c.enter-e.ensures c.if-e.false))
+    ap (λ (d : Beside). d.size) c.clear.ensures.behind ∙ same_size c.list-r.ensures.on.kept ∙ c.enter-e.ensures.size
 
 pub call-returns : goal.call-returns
 call-returns t c =
-    call-refused c.requires.near c.enter-e.ensures c.if-e.false c.refused.ensures
+    call-expanded c.requires.near c.requires.listed c.enter-e.ensures c.in-Some.is c.list-r.ensures c.clear.ensures c.made.ensures.0 c.made.ensures.1
+
+pub call-shape_of-t-in_default : goal.call-shape_of-t-in_default
+unfolding beside
+call-shape_of-t-in_default t c =
+    same_size c.refused.ensures.kept ∙ same_size (ap beside (wrote_none c.enter-e.ensures c.in_default.is))
+
+pub call-returns-in_default : goal.call-returns-in_default
+call-returns-in_default t c =
+    call-refused c.requires.near c.enter-e.ensures c.in_default.is c.refused.ensures
 
 pub cases-loop-at-init : goal.cases-loop-at-init
 cases-loop-at-init t c =
