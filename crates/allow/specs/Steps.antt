@@ -4,6 +4,8 @@ use Rattle.std.specs.Prelude.{Bool, true, cond, List, ℕ, zero, suc, ◌+◌, �
 use Rattle.uses_law.specs.Uses.{Sort, a_name, changes, becomes, index, opens, closes, last, other, State, calm, named, changing, opened, changed, passing}
 use Rattle.allow.specs.declared.Sort as coded
 use Rattle.allow.specs.declared.Sort.TheVariants as sort
+use Rattle.allow.specs.declared.State as behind
+use Rattle.allow.specs.declared.State.TheVariants as state
 use Rattle.allow.specs.declared.Asked.{Asked}
 use Rattle.allow.specs.declared.Asked.TheVariants as ask
 
@@ -22,6 +24,14 @@ abbrev pub ask_number : Asked → ℕ
 ask_number ask.Nothing = 0
 ask_number ask.Name = 1
 ask_number ask.NameOrBit = 2
+
+abbrev pub state_number : behind.State → ℕ
+state_number state.Nothing = 0
+state_number state.Named = 1
+state_number state.Changing = 2
+state_number state.Opened = 3
+state_number state.Changed = 4
+state_number (state.Call inner) = suc (suc (suc (suc (suc inner))))
 
 -- the number of a word's sort, by that of its kind
 unfoldable pub sort_code : ℕ → ℕ

@@ -26,6 +26,17 @@ pub enum Sort {
     Last,
 }
 
+// What stands before a word: nothing that matters, a name, `raise` or its like, that and its `(`, these and a name; or a call's parentheses, with so many open inside them.
+#[derive(Clone, Copy, PartialEq, Eq)]
+pub enum State {
+    Nothing,
+    Named,
+    Changing,
+    Opened,
+    Changed,
+    Call(u32),
+}
+
 // What is asked of a name: nothing, that it stands for a name, or for a name or a bit.
 #[derive(Clone, Copy, PartialEq, Eq)]
 pub enum Asked {
@@ -55,7 +66,7 @@ pub fn allowed(s: &[u8], t: &[u8], u: Under, first: Here) -> bool
     ensures { Allows s.now (beside t.now).names u first result }
 {
     let mut word = first;
-    let mut state: u32 = 0;
+    let mut state = State::Nothing;
     let mut a: u16 = 0;
     let mut b: u16 = 0;
     loop {

@@ -1,8 +1,9 @@
 // The walk over a body's words: what a word is, what is asked of the name before it, and the state behind it.
 ghost use Rattle.std.specs.Prelude.{◌≡◌, ◌<◌};
-ghost use Rattle.allow.specs.Steps.{sort_number, ask_number, sort_code, ask_code, passed_code, next_code};
+ghost use Rattle.allow.specs.declared.State.TheVariants as behind;
+ghost use Rattle.allow.specs.Steps.{sort_number, ask_number, state_number, sort_code, ask_code, passed_code, next_code};
 
-use crate::{Asked, Sort};
+use crate::{Asked, Sort, State};
 use words::kinds;
 
 // What a word is, by its kind.
@@ -24,52 +25,43 @@ pub fn sort_of(kind: u8) -> Sort
 
 // What is asked of the name before such a word.
 #[tactic(auto, unfolding(crate::specs::Steps::ask_code))]
-pub fn asked(state: u32, sort: Sort) -> Asked
-    ensures { ask_number result ≡ ask_code state (sort_number sort) }
+pub fn asked(state: State, sort: Sort) -> Asked
+    ensures { ask_number result ≡ ask_code (state_number state) (sort_number sort) }
 {
-    match state {
-        1 => match sort {
-            Sort::Becomes | Sort::Index => Asked::Name,
-            _ => Asked::Nothing,
-        },
-        4 => match sort {
-            Sort::Index => Asked::Name,
-            _ => Asked::NameOrBit,
-        },
+    match (state, sort) {
+        (State::Named, Sort::Becomes | Sort::Index) | (State::Changed, Sort::Index) => Asked::Name,
+        (State::Changed, _) => Asked::NameOrBit,
         _ => Asked::Nothing,
     }
 }
 
-// The state in the parentheses of a call: 5, and one more for each that is open inside them.
+// The state behind a word in the parentheses of a call, where so many are open inside them.
 #[tactic(auto, unfolding(crate::specs::Steps::passed_code))]
-fn passed(state: u32, sort: Sort) -> u32
-    requires { (4 < state) × (state < 100000) }
-    ensures { result ≡ passed_code state (sort_number sort) }
+fn passed(inner: u32, sort: Sort) -> State
+    requires { state_number (behind.Call inner) < 100000 }
+    ensures { state_number result ≡ passed_code (state_number (behind.Call inner)) (sort_number sort) }
 {
     match sort {
-        Sort::Opens => state + 1,
-        Sort::Closes => if state == 5 { 0 } else { state - 1 },
-        _ => state,
+        Sort::Opens => State::Call(inner + 1),
+        Sort::Closes if inner == 0 => State::Nothing,
+        Sort::Closes => State::Call(inner - 1),
+        _ => State::Call(inner),
     }
 }
 
-// The state behind such a word: 1 behind a name, 2 behind `raise`, 3 behind its `(`, 4 behind the name there, from 5 on in a call, else 0.
-// It stays a number: `state_at`, `passed_code` and `next_code` of specs/Steps count it, and `Going` bounds it by the word's place.
+// The state behind such a word.
 #[tactic(auto, unfolding(crate::specs::Steps::next_code))]
-pub fn next(state: u32, sort: Sort) -> u32
-    requires { state < 100000 }
-    ensures { result ≡ next_code state (sort_number sort) }
+pub fn next(state: State, sort: Sort) -> State
+    requires { state_number state < 100000 }
+    ensures { state_number result ≡ next_code (state_number state) (sort_number sort) }
 {
-    if state > 4 {
-        return passed(state, sort);
-    }
-    if state == 2 || state == 3 {
-        return state + 1;
-    }
-    match sort {
-        Sort::Name => 1,
-        Sort::Changes => 2,
-        Sort::Opens => if state == 1 { 5 } else { 0 },
-        _ => 0,
+    match (state, sort) {
+        (State::Call(inner), _) => passed(inner, sort),
+        (State::Changing, _) => State::Opened,
+        (State::Opened, _) => State::Changed,
+        (_, Sort::Name) => State::Named,
+        (_, Sort::Changes) => State::Changing,
+        (State::Named, Sort::Opens) => State::Call(0),
+        _ => State::Nothing,
     }
 }

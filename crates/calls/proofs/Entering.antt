@@ -4,6 +4,7 @@ use mathlib.Core.Bool.{Bool, true, false, cond}
 use mathlib.Core.Path.{◌≡◌, refl, sym, ◌∙◌, ap, ap₂, subst}
 use mathlib.Core.List.{List, [], ◌∷◌, map}
 use mathlib.Core.Option.{none, some}
+use Rattle.std.specs.Prelude.{Option, Some, None}
 use Prim.Native.Nat.{ℕ, suc, ◌+◌, ◌-◌, ◌*◌, ◌≤◌, ◌<◌}
 use native.Mathlib.Omega.{arith}
 use lib.Dec.{ltb, leb}
@@ -40,9 +41,10 @@ use Rattle.frames.proofs.Pushing.{as_many_lem, open_push}
 use Rattle.allow.specs.Allowed.{Allows}
 use Rattle.calls.specs.declared.actuals.Handing.{Handing}
 use Rattle.calls.specs.declared.Entered.{Entered}
+use Rattle.calls.specs.declared.Expanded.{Expanded}
 use Rattle.calls.specs.Room.{frame_end, BodyAt}
 use Rattle.calls.specs.Hands.{Known, stand_for, Hands}
-use Rattle.calls.specs.Settles.{frame_under, framed, Leaves, Settles}
+use Rattle.calls.specs.Settles.{frame_under, framed, is_expanded, Leaves, Settles}
 use Rattle.calls.specs.Enters.{Body, Outcome, Wrote, Enters}
 
 -- ---- where the frame ends
@@ -139,12 +141,12 @@ back t v₁ v top to y size o p = p.behind ∙ ap₂ (λ (n : ℕ) (l : List ℕ
 -- ---- the parts of it
 
 pub settled_ok : {s t v : List ℕ} {u : Under} {row p to : ℕ} {body word : Here} {b : Bool} → Puts t v (framed t u p) → Allows s (beside v).names (frame_under u row to) body b → b ≡ true
-    → Settles s t v u row p to body word (record { word = word; ok = true; under = frame_under u row to; body = body })
+    → Settles s t v u row p to body word (record { word = word; expanded = Some (record { under = frame_under u row to; body = body }) })
 settled_ok q a e = record { behind = refl; allows = rw (e, puts_names q) at a; leaves = (q, refl, refl) }
 
-pub settled_not : {s t v₁ v : List ℕ} {u : Under} {row p to : ℕ} {body word : Here} {b : Bool} {r : Entered} → Puts t v₁ (framed t u p) → Allows s (beside v₁).names (frame_under u row to) body b → b ≡ false
-    → Puts v₁ v (wiped (beside v₁).names u.top (to - u.top)) → r ≡ record { word = word; ok = false; under = u; body = word } → Settles s t v u row p to body word r
-settled_not {u = u} {to = to} q a e w r = rw r (record { behind = refl; allows = rw (e, puts_names q) at a; leaves = puts_on (λ (z : List ℕ). wiped z u.top (to - u.top)) q w })
+pub settled_not : {s t v₁ v : List ℕ} {u : Under} {row p to : ℕ} {body word : Here} {b : Bool} → Puts t v₁ (framed t u p) → Allows s (beside v₁).names (frame_under u row to) body b → b ≡ false
+    → Puts v₁ v (wiped (beside v₁).names u.top (to - u.top)) → Settles s t v u row p to body word (record { word = word; expanded = None })
+settled_not {u = u} {to = to} q a e w = record { behind = refl; allows = rw (e, puts_names q) at a; leaves = puts_on (λ (z : List ℕ). wiped z u.top (to - u.top)) q w }
 
 -- ---- the whole
 
@@ -171,25 +173,27 @@ module _ (s t : List ℕ) (u : Under) (first opener : Here) (near : Near s first
   named w ws st = sym st.0.bytes
 
   -- nothing is written, and the call stays
-  module _ (v : List ℕ) (h : Handing) (hands : Hands s t v u opener.next 0 h) (word : Here) (follows : Begins s h.word.next word) (r : Entered) (is : r ≡ record { word = word; ok = false; under = u; body = word }) where
-    enters_still : ((n : Name) → n.bytes ≡ part s first.place first.next → (es : List Term) (ps : List unexpanded.Procedure) (bound : List (Bound Term)) → Open s z ps bound u → called ps u.at n es ≡ alone (call n es)) → Enters s t v u first r
+  module _ (v : List ℕ) (h : Handing) (hands : Hands s t v u opener.next 0 h) (word : Here) (follows : Begins s h.word.next word) where
+    abbrev still : Entered
+    still = record { word = word; expanded = None }
+
+    enters_still : ((n : Name) → n.bytes ≡ part s first.place first.next → (es : List Term) (ps : List unexpanded.Procedure) (bound : List (Bound Term)) → Open s z ps bound u → called ps u.at n es ≡ alone (call n es)) → Enters s t v u first still
     enters_still stays =
-        rw is
-        (record {
+        record {
           near = follows.near;
           past = past v 0 h hands word follows;
           tree = hands.beyond.tree;
           size = hands.beyond.size;
           wrote = hands.beyond.kept refl;
           told = λ w o c tail rest st f m ts few y. ((read v 0 h hands word follows w o c tail rest st f m ts few y).0, λ ps bound op. stays (moved (told_at u.at) (name_at w)) (named w (o ∷ tail) st) (stand_for u bound ts) ps bound op);
-        })
+        }
 
     -- there is no such procedure
-    pub enters_none : none ≡ row_in s z u.seen (part s first.place first.next) → Enters s t v u first r
+    pub enters_none : none ≡ row_in s z u.seen (part s first.place first.next) → Enters s t v u first still
     enters_none e = enters_still (λ n bytes es ps bound op. calls-none s z n u.seen ps op.rows (ap (row_in s z u.seen) bytes ∙ sym e) u.at es)
 
     -- no frame can be written: under what is known of the area that is not so
-    pub enters_full : {row p count : ℕ} → some row ≡ row_in s z u.seen (part s first.place first.next) → p ≡ procedure_at z row → count ≡ length (formals_at s p) → none ≡ frame_end z u row count → Enters s t v u first r
+    pub enters_full : {row p count : ℕ} → some row ≡ row_in s z u.seen (part s first.place first.next) → p ≡ procedure_at z row → count ≡ length (formals_at s p) → none ≡ frame_end z u row count → Enters s t v u first still
     enters_full {row} {p} {count} rowed at counted full = enters_still stays
       where
         stays : (n : Name) → n.bytes ≡ part s first.place first.next → (es : List Term) (ps : List unexpanded.Procedure) (bound : List (Bound Term)) → Open s z ps bound u → called ps u.at n es ≡ alone (call n es)
@@ -218,17 +222,16 @@ module _ (s t : List ℕ) (u : Under) (first opener : Here) (near : Near s first
     formals n ps c = many ∙ as_many_lem (NamedAt s) (formals_at s place) c.procedure.formals (head_of s place c.procedure near.short c.stands).formals
 
     -- P7: another count of actuals
-    pub enters_other : (v : List ℕ) (r : Entered) → ¬ (h.count ≡ count) → Puts v₁ v (wiped (beside v₁).names u.top (to - u.top)) → r ≡ record { word = word; ok = false; under = u; body = word } → Enters s t v u first r
-    enters_other v r differ puts is =
-        rw is
-        (record {
+    pub enters_other : (v : List ℕ) → ¬ (h.count ≡ count) → Puts v₁ v (wiped (beside v₁).names u.top (to - u.top)) → Enters s t v u first (record { word = word; expanded = None })
+    enters_other v differ puts =
+        record {
           near = follows.near;
           past = past v₁ count h hands word follows;
           tree = puts.tree ∙ hands.beyond.tree;
           size = puts_size puts ∙ hands.beyond.size;
           wrote = back t v₁ v u.top to (beside v₁).names hands.beyond.size over puts;
           told = λ w o c tail rest st f m ts few y. let (a, b, g) = read v₁ count h hands word follows w o c tail rest st f m ts few y in (a, λ ps bound op. stays (moved (told_at u.at) (name_at w)) (named w (o ∷ tail) st) ts b ps bound op);
-        })
+        }
       where
         stays : (n : Name) → n.bytes ≡ part s first.place first.next → (ts : List Term) → h.count ≡ length ts → (ps : List unexpanded.Procedure) (bound : List (Bound Term)) → Open s z ps bound u → called ps u.at n (stand_for u bound ts) ≡ alone (call n (stand_for u bound ts))
         stays n bytes ts b ps bound op =
@@ -305,8 +308,8 @@ module _ (s t : List ℕ) (u : Under) (first opener : Here) (near : Near s first
         allowed : {b : Bool} → Allows s y (frame_under u row to) body b → b ≡ allowed_by bound₂ c.procedure.body
         allowed a = a.told bound₂ pushed.framed its.words its.stands its.depth its.levels c.procedure.body its.last its.rest its.told its.ends
 
-        outcome : (v : List ℕ) (r : Entered) (b : Bool) → Leaves v₁ v u row p to body r b → Allows s y (frame_under u row to) body b → Outcome s (beside v).names ps u.at n es r b
-        outcome v r true (puts, under, first_word) a =
+        outcome : (v : List ℕ) (r : Option Expanded) → Leaves v₁ v u row p to body r → Allows s y (frame_under u row to) body (is_expanded r) → Outcome s (beside v).names ps u.at n es r
+        outcome v (Some r) (puts, under, first_word) a =
             record {
               before = c.before;
               bound = bound₂;
@@ -315,29 +318,29 @@ module _ (s t : List ℕ) (u : Under) (first opener : Here) (near : Near s first
               read = rw first_word its;
               same = rw under (c.expands u.at es ∙ call_expands c.procedure c.before u.at n es c.name counts (sym (allowed a)));
             }
-        outcome v r false puts a = c.expands u.at es ∙ call-refused c.procedure c.before u.at n es c.name counts (sym (allowed a))
+        outcome v None puts a = c.expands u.at es ∙ call-refused c.procedure c.before u.at n es c.name counts (sym (allowed a))
 
-      wrote : (v : List ℕ) (r : Entered) (b : Bool) → Leaves v₁ v u row p to body r b → Wrote s t v u r b
-      wrote v r true (puts, under, first_word) =
+      wrote : (v : List ℕ) (r : Option Expanded) → Leaves v₁ v u row p to body r → Wrote s t v u r
+      wrote v (Some r) (puts, under, first_word) =
           (rw (puts_names puts, under) over_all_lem, rw first_word begins.near, rw under refl, rw under (row_less s z (part s first.place first.next) u.seen row found), rw under (omega (arith, ends.end)))
-      wrote v r false puts = back t v₁ v u.top to y hands.beyond.size over_all_lem puts
+      wrote v None puts = back t v₁ v u.top to y hands.beyond.size over_all_lem puts
 
-      leaves-tree : (v : List ℕ) (r : Entered) (b : Bool) → Leaves v₁ v u row p to body r b → (take tree_bytes v ≡ take tree_bytes v₁) × (length v ≡ length v₁)
-      leaves-tree v r true (puts, under, first_word) = (puts.tree, puts_size puts)
-      leaves-tree v r false puts = (puts.tree, puts_size puts)
+      leaves-tree : (v : List ℕ) (r : Option Expanded) → Leaves v₁ v u row p to body r → (take tree_bytes v ≡ take tree_bytes v₁) × (length v ≡ length v₁)
+      leaves-tree v (Some r) (puts, under, first_word) = (puts.tree, puts_size puts)
+      leaves-tree v None puts = (puts.tree, puts_size puts)
 
       pub enters_settled : (v : List ℕ) (r : Entered) → Settles s v₁ v u row p to body word r → Enters s t v u first r
       enters_settled v r x =
-          let (tree, size) = leaves-tree v r r.ok x.leaves in
+          let (tree, size) = leaves-tree v r.expanded x.leaves in
           record {
             near = rw x.behind follows.near;
             past = rw x.behind (past v₁ count h hands word follows);
             tree = tree ∙ hands.beyond.tree;
             size = size ∙ hands.beyond.size;
-            wrote = wrote v r r.ok x.leaves;
+            wrote = wrote v r.expanded x.leaves;
             told = λ w o c tail rest st f m ts few q.
                 let (a, b, g) = read v₁ count h hands word follows w o c tail rest st f m ts few q in
-                (rw x.behind a, λ ps bound op. outcome (moved (told_at u.at) (name_at w)) (named w (o ∷ tail) st) ts b g ps bound op v r r.ok x.leaves x.allows);
+                (rw x.behind a, λ ps bound op. outcome (moved (told_at u.at) (name_at w)) (named w (o ∷ tail) st) ts b g ps bound op v r.expanded x.leaves x.allows);
           }
 
 -- ---- left again

@@ -1,7 +1,7 @@
 // A call entered: its procedure found, its frame written with every actual, and P7 asked.
 #![tactic(auto)]
 
-ghost use Rattle.std.specs.Prelude.{◌≡◌, false, ◌<◌};
+ghost use Rattle.std.specs.Prelude.{◌<◌};
 ghost use Rattle.hand.specs.Along.{Near};
 ghost use Rattle.calls.specs.Settles.{Settles};
 ghost use Rattle.calls.specs.Enters.{Enters};
@@ -12,26 +12,18 @@ use hand::Here;
 pub mod actuals;
 mod room;
 
-// `ok` stays beside what it tells of: `Expands`, `Outcome` and `Wrote` of specs/Enters, and laws of measure and stmts on them, name `ok`, `under` and `body` each by itself.
-// The word behind a call; whether it is expanded, and then under what its body is read, and that one's first word.
+// Under what the body of a call that is expanded is read, and that one's first word.
 #[derive(Clone, Copy)]
-pub struct Entered {
-    pub word: Here,
-    pub ok: bool,
+pub struct Expanded {
     pub under: Under,
     pub body: Here,
 }
 
-// The call stays.
-fn stays(word: Here, u: Under) -> Entered
-    ensures { result ≡ record { word = word; ok = false; under = u; body = word } }
-{
-    Entered {
-        word,
-        ok: false,
-        under: u,
-        body: word,
-    }
+// The word behind a call, and what it is expanded to unless it stays.
+#[derive(Clone, Copy)]
+pub struct Entered {
+    pub word: Here,
+    pub expanded: Option<Expanded>,
 }
 
 // Behind its actuals the frame is written up to a place, and P7 asked; if the call stays, all is zero again.
@@ -59,13 +51,14 @@ fn settled(
     if allow::allowed(s, t, v, body) {
         return Entered {
             word,
-            ok: true,
-            under: v,
-            body,
+            expanded: Some(Expanded { under: v, body }),
         };
     }
     put::clear(t, u.top, to);
-    stays(word, u)
+    Entered {
+        word,
+        expanded: None,
+    }
 }
 
 // From the name of a call on.
@@ -76,19 +69,28 @@ pub fn enter(s: &[u8], t: &mut [u8], u: Under, first: Here) -> Entered
     let open = hand::word_from(s, first.next);
     let Some(row) = find::procedure(s, t, u.seen, first.place, first.next) else {
         let h = actuals::hand_over(s, t, u, open.next, 0);
-        return stays(hand::word_from(s, h.word.next), u);
+        return Entered {
+            word: hand::word_from(s, h.word.next),
+            expanded: None,
+        };
     };
     let p = area::procedure_at(t, row);
     let head = list::head_of(s, usize::from(p));
     let Some(to) = room::frame_end(t, u, row, head.count) else {
         let h = actuals::hand_over(s, t, u, open.next, 0);
-        return stays(hand::word_from(s, h.word.next), u);
+        return Entered {
+            word: hand::word_from(s, h.word.next),
+            expanded: None,
+        };
     };
     let h = actuals::hand_over(s, t, u, open.next, head.count);
     let word = hand::word_from(s, h.word.next);
     if h.count != head.count {
         put::clear(t, u.top, to);
-        return stays(word, u);
+        return Entered {
+            word,
+            expanded: None,
+        };
     }
     let body = room::body_word(s, head.body);
     settled(s, t, u, row, p, to, body, word)

@@ -36,7 +36,9 @@ use Rattle.tally.proofs.Steps.{alike, begun-holds}
 use Rattle.tally.proofs.Ends.{none_left_lem}
 use Rattle.measure.specs.declared.Counted.{Counted}
 use Rattle.measure.specs.Counted.{Known, one_of, all_of, Measures, Tells, RowCame, All}
+use Rattle.std.specs.Prelude as optional
 use Rattle.calls.specs.declared.Entered.{Entered}
+use Rattle.calls.specs.declared.Expanded.{Expanded}
 use Rattle.calls.specs.declared.actuals.Handing.{Handing}
 use Rattle.calls.specs.Hands.{Hands}
 use Rattle.calls.specs.Enters.{Expands, Outcome, Wrote, Enters}
@@ -162,42 +164,42 @@ later : {s t t₁ : List ℕ} {u : Under} {h : Here} {e : Entered} → Near s h 
 later near entered = omega (arith, near.on, entered.past)
 
 -- a frame is written, and the procedures that its body can call are fewer
-pub wrote_frame : {s t t₁ : List ℕ} {u : Under} {h : Here} {e : Entered} → Enters s t t₁ u h e → e.ok ≡ true → Wrote s t t₁ u e true
-wrote_frame {s} {t} {t₁} {u} {h} {e} entered framed = subst (Wrote s t t₁ u e) framed entered.wrote
+pub wrote_frame : {s t t₁ : List ℕ} {u : Under} {h : Here} {e : Entered} {x : Expanded} → Enters s t t₁ u h e → e.expanded ≡ optional.Some x → Wrote s t t₁ u (optional.Some x)
+wrote_frame {s} {t} {t₁} {u} entered framed = subst (Wrote s t t₁ u) framed entered.wrote
 
 module _ {s t t₁ : List ℕ} {u : Under} {n : ℕ} {h a : Here} {m : Tally} {e : Entered} (near : Near s h) (second : Begins s h.next a) (opens : a.kind ≡ 14) (entered : Enters s t t₁ u h e) where
   -- P7: it stays
-  pub call_stays : {q : Tally} {r : Counted} → e.ok ≡ false → q ≡ begun_tally m → r ≡ counted e.word q → (k : ℕ) → k ≤ 32 → RowCame s (beside t).names u k n 5 h m t t₁ r
+  pub call_stays : {q : Tally} {r : Counted} → e.expanded ≡ optional.None → q ≡ begun_tally m → r ≡ counted e.word q → (k : ℕ) → k ≤ 32 → RowCame s (beside t).names u k n 5 h m t t₁ r
   call_stays {q} {r} no-frame is made k few =
-      record { on = rw made (record { near = entered.near; later = later near entered; tree = entered.tree; kept = subst (Wrote s t t₁ u e) no-frame entered.wrote }); told = go }
+      record { on = rw made (record { near = entered.near; later = later near entered; tree = entered.tree; kept = subst (Wrote s t t₁ u) no-frame entered.wrote }); told = go }
     where
       go : (S : Known s (beside t).names u) (ws : List Word) → Stands s h ws → (f : ℕ) (v : Command) (rest : List Word) → StatementRow f k ws v rest 5 → Tells s r.word rest (Measures 1 n m r.tally (over_all (one_of S v)))
       go S ws st f v rest x =
           let w = words second opens few ws st f v rest x in
           let (behind, so) = entered.told w.word w.opens w.closes w.tail rest w.stands w.fuel w.levels w.actuals w.few w.told in
-          let outcome = subst (Outcome s (beside t₁).names S.procedures u.at _ _ e) no-frame (so S.procedures S.bound S.is) in
+          let outcome = subst (Outcome s (beside t₁).names S.procedures u.at _ _) no-frame (so S.procedures S.bound S.is) in
           rw (made, is, w.is) (record { word = behind; so = stays_measures S (name_at w.word) w.actuals outcome })
 
   -- its body is counted
-  pub call-body : {t₂ t₃ : List ℕ} {g r : Counted} → e.ok ≡ true → All s (beside t₁).names e.under 32 n e.body m t₁ t₂ g → Puts t₂ t₃ (wiped (beside t₂).names u.top (e.under.top - u.top)) → r ≡ counted e.word g.tally
+  pub call-body : {t₂ t₃ : List ℕ} {g r : Counted} {d : Expanded} → e.expanded ≡ optional.Some d → All s (beside t₁).names d.under 32 n d.body m t₁ t₂ g → Puts t₂ t₃ (wiped (beside t₂).names u.top (d.under.top - u.top)) → r ≡ counted e.word g.tally
       → (k : ℕ) → k ≤ 32 → RowCame s (beside t).names u k n 5 h m t t₃ r
-  call-body {t₂} {t₃} {g} {r} framed came puts made k few =
-      record { on = rw made (record { near = entered.near; later = later near entered; tree = puts.tree ∙ came.on.tree ∙ entered.tree; kept = cleared t t₁ t₂ t₃ u.top e.under.top wrote.0 entered.size came.on.kept puts }); told = go }
+  call-body {t₂} {t₃} {g} {r} {d} framed came puts made k few =
+      record { on = rw made (record { near = entered.near; later = later near entered; tree = puts.tree ∙ came.on.tree ∙ entered.tree; kept = cleared t t₁ t₂ t₃ u.top d.under.top wrote.0 entered.size came.on.kept puts }); told = go }
     where
-      wrote : Wrote s t t₁ u e true
+      wrote : Wrote s t t₁ u (optional.Some d)
       wrote = wrote_frame entered framed
 
-      body : (S : Known s (beside t).names u) (w : Name) (ts : List Term) → Expands s (beside t₁).names S.procedures (moved (told_at u.at) w) (map (replaced (told_at u.at) S.bound) ts) e → Measures 1 n m g.tally (over_all (one_of S (call w ts)))
+      body : (S : Known s (beside t).names u) (w : Name) (ts : List Term) → Expands s (beside t₁).names S.procedures (moved (told_at u.at) w) (map (replaced (told_at u.at) S.bound) ts) d → Measures 1 n m g.tally (over_all (one_of S (call w ts)))
       body S w ts x =
-          let at : e.under.at ≡ u.at = wrote.2 in
-          let inner : Known s (beside t₁).names e.under = record { placed = rw at S.placed; procedures = x.before; bound = x.bound; is = x.opened } in
+          let at : d.under.at ≡ u.at = wrote.2 in
+          let inner : Known s (beside t₁).names d.under = record { placed = rw at S.placed; procedures = x.before; bound = x.bound; is = x.opened } in
           let i = came.told inner x.read.words x.read.stands x.read.depth x.body (x.read.last ∷ x.read.rest) (deeper x.read.depth Statements x.read.levels 32 x.read.words x.body (x.read.last ∷ x.read.rest) x.read.few x.read.told) in
           body_measures S w ts (all_of inner x.body)
-          (ap (λ (p : ℕ). called S.procedures p (moved (told_at u.at) w) (map (replaced (told_at u.at) S.bound) ts)) (sym at) ∙ x.same ∙ ap (λ (f : ℕ → ℕ). expand_all (called x.before e.under.at) f x.bound x.body) (sym (told-call e.under.at inner.placed))) i.so
+          (ap (λ (p : ℕ). called S.procedures p (moved (told_at u.at) w) (map (replaced (told_at u.at) S.bound) ts)) (sym at) ∙ x.same ∙ ap (λ (f : ℕ → ℕ). expand_all (called x.before d.under.at) f x.bound x.body) (sym (told-call d.under.at inner.placed))) i.so
 
       go : (S : Known s (beside t).names u) (ws : List Word) → Stands s h ws → (f : ℕ) (v : Command) (rest : List Word) → StatementRow f k ws v rest 5 → Tells s r.word rest (Measures 1 n m r.tally (over_all (one_of S v)))
       go S ws st f v rest x =
           let w = words second opens few ws st f v rest x in
           let (behind, so) = entered.told w.word w.opens w.closes w.tail rest w.stands w.fuel w.levels w.actuals w.few w.told in
-          let outcome = subst (Outcome s (beside t₁).names S.procedures u.at _ _ e) framed (so S.procedures S.bound S.is) in
+          let outcome = subst (Outcome s (beside t₁).names S.procedures u.at _ _) framed (so S.procedures S.bound S.is) in
           rw (made, w.is) (record { word = behind; so = body S (name_at w.word) w.actuals outcome })

@@ -72,14 +72,12 @@ fn call(s: &[u8], t: &mut [u8], u: Under, first: Here, after: Here, m: Tally, ar
         return single::made(hand::word_from(s, h.word.next), m.full());
     }
     let e = calls::enter(s, t, u, first);
-    let word = e.word;
-    if e.ok {
-        let v = e.under;
-        let a = list(s, t, v, e.body, m, 32, around);
-        put::clear(t, u.top, v.top);
-        return single::made(word, a.tally);
-    }
-    single::made(word, m.begun())
+    let Some(inside) = e.expanded else {
+        return single::made(e.word, m.begun());
+    };
+    let a = list(s, t, inside.under, inside.body, m, 32, around);
+    put::clear(t, u.top, inside.under.top);
+    single::made(e.word, a.tally)
 }
 
 // `loop`.

@@ -37,7 +37,9 @@ use Rattle.frames.specs.Open as frame
 use Rattle.frames.specs.Put.{Puts, wiped}
 use Rattle.frames.proofs.Putting.{wiped-back}
 use Rattle.frames_law.proofs.Frames.{told-call}
+use Rattle.std.specs.Prelude.{Option as Optional, Some, None}
 use Rattle.calls.specs.declared.Entered.{Entered}
+use Rattle.calls.specs.declared.Expanded.{Expanded}
 use Rattle.calls.specs.Enters.{Expands, Outcome, Wrote, Enters}
 use Rattle.own_law.proofs.Noted.{read-refused}
 use Rattle.own_law.specs.Own.{nothing, own_all}
@@ -105,19 +107,19 @@ module _ {s : List ℕ} {under : Under} {h : Here} {t t₁ : List ℕ} {e : Ente
   behind-call {v} {ts} {rest} at = (enters.told at.word at.opens at.closes at.tail rest at.stands at.fuel at.levels ts at.few at.told).0
 
   -- nothing is written
-  pub wrote_none : e.ok ≡ false → t₁ ≡ t
-  wrote_none no_call = same_area t t₁ enters.tree (subst (Wrote s t t₁ under e) no_call enters.wrote)
+  pub wrote_none : e.expanded ≡ None → t₁ ≡ t
+  wrote_none no_call = same_area t t₁ enters.tree (subst (Wrote s t t₁ under) no_call enters.wrote)
 
-  pub wrote_frame : e.ok ≡ true → Wrote s t t₁ under e true
-  wrote_frame yes-call = subst (Wrote s t t₁ under e) yes-call enters.wrote
+  pub wrote_frame : {d : Expanded} → e.expanded ≡ Some d → Wrote s t t₁ under (Some d)
+  wrote_frame yes-call = subst (Wrote s t t₁ under) yes-call enters.wrote
 
   module _ {count : ℕ} (o : Scope s (beside t).names count under) (inside : under.at < no_place) {v : Name} {ts : List Term} {rest : List Word} (at : CallAt s h v ts rest) where
     -- what the call stands for, by whether it is expanded
-    outcome : (c : Bool) → e.ok ≡ c → Outcome s (beside t₁).names o.procedures under.at (record { bytes = v.bytes; place = under.at }) (map (replaced (λ q. under.at) o.bound) ts) e c
+    outcome : (c : Optional Expanded) → e.expanded ≡ c → Outcome s (beside t₁).names o.procedures under.at (record { bytes = v.bytes; place = under.at }) (map (replaced (λ q. under.at) o.bound) ts) c
     outcome c is =
-        subst (λ (n : Name). Outcome s (beside t₁).names o.procedures under.at (record { bytes = n.bytes; place = under.at }) (map (replaced (λ q. under.at) o.bound) ts) e c) (sym at.named)
-        (subst (λ (f : ℕ → ℕ). Outcome s (beside t₁).names o.procedures under.at (moved f (name_at at.word)) (map (replaced f o.bound) ts) e c) (told-call under.at inside)
-        (subst (Outcome s (beside t₁).names o.procedures under.at (moved (told_at under.at) (name_at at.word)) (map (replaced (told_at under.at) o.bound) ts) e) is
+        subst (λ (n : Name). Outcome s (beside t₁).names o.procedures under.at (record { bytes = n.bytes; place = under.at }) (map (replaced (λ q. under.at) o.bound) ts) c) (sym at.named)
+        (subst (λ (f : ℕ → ℕ). Outcome s (beside t₁).names o.procedures under.at (moved f (name_at at.word)) (map (replaced f o.bound) ts) c) (told-call under.at inside)
+        (subst (Outcome s (beside t₁).names o.procedures under.at (moved (told_at under.at) (name_at at.word)) (map (replaced (told_at under.at) o.bound) ts)) is
         ((enters.told at.word at.opens at.closes at.tail rest at.stands at.fuel at.levels ts at.few at.told).1 o.procedures o.bound o.opened)))
 
 -- P7: refused
@@ -125,7 +127,7 @@ refused-read : (look : List ℕ → Option Variable) (n : ℕ) (v : Name) (ts : 
 unfolding walk
 refused-read look n v ts l b w = sym (read-refused six_at (nine_in true) (λ x. walk_all look x l b) n v ts w)
 
-pub call-refused : {s : List ℕ} {count : ℕ} {under : Under} {l b : Bool} {h : Here} {m : Marks} {t t₁ u : List ℕ} {e : Entered} {r : Read} → Near s h → Enters s t t₁ under h e → e.ok ≡ false → Refuses under.at e.word m t₁ u r
+pub call-refused : {s : List ℕ} {count : ℕ} {under : Under} {l b : Bool} {h : Here} {m : Marks} {t t₁ u : List ℕ} {e : Entered} {r : Read} → Near s h → Enters s t t₁ under h e → e.expanded ≡ None → Refuses under.at e.word m t₁ u r
     → CallCame s (beside t).names count under l b h m t u r
 call-refused {s} {count} {under} {l} {b} {h} {m} {t} {t₁} {u} {e} {r} near enters no_call fin =
     record {
@@ -136,7 +138,7 @@ call-refused {s} {count} {under} {l} {b} {h} {m} {t} {t₁} {u} {e} {r} near ent
             walks = fin.walks (look_in s (beside t).names count) l b
                 ∙ ap (λ (y : List ℕ). six_at under.at (walk (look_in s (beside t).names count) (tree.skip (head_at under.at)) l b (walked m y))) (wrote_none enters no_call)
                 ∙ refused-read (look_in s (beside t).names count) n (record { bytes = v.bytes; place = under.at }) (map (replaced (λ q. under.at) o.bound) ts) l b (walked m t)
-                ∙ ap (λ (y : Commands). reading s (beside t).names count n y l b (walked m t)) (sym (outcome enters o inside at false no_call)) ∙ sym (call_in o inside n l b (walked m t) v ts);
+                ∙ ap (λ (y : Commands). reading s (beside t).names count n y l b (walked m t)) (sym (outcome enters o inside at None no_call)) ∙ sym (call_in o inside n l b (walked m t) v ts);
           };
     }
 
@@ -146,11 +148,11 @@ behind_is : (z t u : List ℕ) (n : ℕ) → length t ≡ n → take tree_bytes 
 behind_is z t u n e tree names =
     ap (λ (k : Bool). cond k (take tree_bytes t ++ z) t) (eq-eqb (length t) n e) ∙ ap (λ (y : List ℕ). y ++ z) (sym tree) ∙ ap (λ (y : List ℕ). take tree_bytes u ++ y) (sym names) ∙ whole-area u
 
-module _ {s : List ℕ} {under : Under} {h : Here} {t t₁ t₂ t₃ : List ℕ} {e : Entered} (enters : Enters s t t₁ under h e) (yes-call : e.ok ≡ true) (kept : beside t₂ ≡ beside t₁) (clears : Puts t₂ t₃ (wiped (beside t₂).names under.top (e.under.top - under.top))) where
+module _ {s : List ℕ} {under : Under} {h : Here} {t t₁ t₂ t₃ : List ℕ} {e : Entered} {d : Expanded} (enters : Enters s t t₁ under h e) (yes-call : e.expanded ≡ Some d) (kept : beside t₂ ≡ beside t₁) (clears : Puts t₂ t₃ (wiped (beside t₂).names under.top (d.under.top - under.top))) where
   names-back : (beside t₃).names ≡ (beside t).names
   names-back =
-      ap (λ (d : Beside). d.names) clears.behind ∙ ap (λ (d : Beside). wiped d.names under.top (e.under.top - under.top)) kept
-      ∙ wiped-back (beside t).names (beside t₁).names under.top e.under.top (wrote_frame enters yes-call).0
+      ap (λ (b : Beside). b.names) clears.behind ∙ ap (λ (b : Beside). wiped b.names under.top (d.under.top - under.top)) kept
+      ∙ wiped-back (beside t).names (beside t₁).names under.top d.under.top (wrote_frame enters yes-call).0
 
   long-one : length t₁ ≡ length t
   long-one = enters.size
@@ -184,7 +186,7 @@ area-size t k h = omega (arith, h, length-drop tree_bytes t)
 
 -- ---- P4: read in the call's stead
 
-abbrev inner : {s : List ℕ} {count : ℕ} {under : Under} {h : Here} {t t₁ : List ℕ} {e : Entered} → Enters s t t₁ under h e → Scope s (beside t).names count under → under.at < no_place → e.ok ≡ true → {ps : List Procedure} {v : Name} {ts : List Term} → Expands s (beside t₁).names ps v ts e → Scope s (beside t₁).names count e.under
+abbrev inner : {s : List ℕ} {count : ℕ} {under : Under} {h : Here} {t t₁ : List ℕ} {e : Entered} {d : Expanded} → Enters s t t₁ under h e → Scope s (beside t).names count under → under.at < no_place → e.expanded ≡ Some d → {ps : List Procedure} {v : Name} {ts : List Term} → Expands s (beside t₁).names ps v ts d → Scope s (beside t₁).names count d.under
 inner enters o inside yes-call y =
     record {
       procedures = y.before;
@@ -194,10 +196,10 @@ inner enters o inside yes-call y =
       own = λ out. absurd (out (subst (λ (p : ℕ). p < no_place) (sym (wrote_frame enters yes-call).2) inside));
     }
 
-body-read : {s : List ℕ} {count : ℕ} {under : Under} {h : Here} {t t₁ : List ℕ} {e : Entered} (enters : Enters s t t₁ under h e) (o : Scope s (beside t).names count under) (inside : under.at < no_place) (yes-call : e.ok ≡ true)
-    {ps : List Procedure} {v : Name} {ts : List Term} (y : Expands s (beside t₁).names ps v ts e) (n k : ℕ) (l b : Bool) (w : Walked)
+body-read : {s : List ℕ} {count : ℕ} {under : Under} {h : Here} {t t₁ : List ℕ} {e : Entered} {d : Expanded} (enters : Enters s t t₁ under h e) (o : Scope s (beside t).names count under) (inside : under.at < no_place) (yes-call : e.expanded ≡ Some d)
+    {ps : List Procedure} {v : Name} {ts : List Term} (y : Expands s (beside t₁).names ps v ts d) (n k : ℕ) (l b : Bool) (w : Walked)
     → all_in (sense_of count (inner enters o inside yes-call y)) k y.body l b w ≡ reading s (beside t).names count n (called ps under.at v ts) l b w
-body-read {s} {count} {under} {h} {t} {t₁} {e} enters o inside yes-call {ps} {v} {ts} y n k l b w =
+body-read {s} {count} {under} {h} {t} {t₁} {e} {d} enters o inside yes-call {ps} {v} {ts} y n k l b w =
     let same_at = (wrote_frame enters yes-call).2 in
     body_in (inner enters o inside yes-call y) (subst (λ (p : ℕ). p < no_place) (sym same_at) inside) k l b w y.body
     ∙ ap (λ (z : Commands). reading s (beside t₁).names count k z l b w) (sym y.same)
@@ -205,14 +207,14 @@ body-read {s} {count} {under} {h} {t} {t₁} {e} enters o inside yes-call {ps} {
     ∙ ap (λ (look : List ℕ → Option Variable). read look true k (called ps under.at v ts) l b w) (look-alike s (beside t₁).names (beside t).names under.top (wrote_frame enters yes-call).0.low count o.behind)
     ∙ any-levels (look_in s (beside t).names count) k n (called ps under.at v ts) l b w
 
-pub call-expanded : {s : List ℕ} {count : ℕ} {under : Under} {l b : Bool} {h : Here} {m : Marks} {t t₁ t₂ t₃ : List ℕ} {e : Entered} {r₁ r : Read} → Near s h → tree_bytes + count * 4 ≤ (beside t).size → Enters s t t₁ under h e → e.ok ≡ true
-    → All s (beside t₁).names count e.under 32 l b e.body m t₁ t₂ r₁ → Puts t₂ t₃ (wiped (beside t₂).names under.top (e.under.top - under.top)) → r.word ≡ e.word → r.marks ≡ r₁.marks
+pub call-expanded : {s : List ℕ} {count : ℕ} {under : Under} {l b : Bool} {h : Here} {m : Marks} {t t₁ t₂ t₃ : List ℕ} {e : Entered} {d : Expanded} {r₁ r : Read} → Near s h → tree_bytes + count * 4 ≤ (beside t).size → Enters s t t₁ under h e → e.expanded ≡ Some d
+    → All s (beside t₁).names count d.under 32 l b d.body m t₁ t₂ r₁ → Puts t₂ t₃ (wiped (beside t₂).names under.top (d.under.top - under.top)) → r.word ≡ e.word → r.marks ≡ r₁.marks
     → CallCame s (beside t).names count under l b h m t t₃ r
-call-expanded {s} {count} {under} {l} {b} {h} {m} {t} {t₁} {t₂} {t₃} {e} {r₁} {r} near long enters yes-call all clears word marks =
+call-expanded {s} {count} {under} {l} {b} {h} {m} {t} {t₁} {t₂} {t₃} {e} {d} {r₁} {r} near long enters yes-call all clears word marks =
     record {
       on = record { near = rw word enters.near; later = rw word (omega (arith, enters.past, near.on)); kept = all_back enters yes-call all.on.kept clears };
       told = λ o inside n v ts rest at.
-          let y = outcome enters o inside at true yes-call in
+          let y = outcome enters o inside at (Some d) yes-call in
           let x = y.read in
           let i = all.told (inner enters o inside yes-call y) x.words x.stands x.depth y.body (x.last ∷ x.rest) (deeper x.depth Statements x.levels 32 x.words y.body (x.last ∷ x.rest) x.few x.told) in
           record { word = rw word (behind-call enters at); walks = go o inside n v ts (i.walks ∙ body-read enters o inside yes-call y n (around 32) l b (walked m t₁)) };

@@ -95,12 +95,12 @@ fn call(
     ensures { CallCame s.now (beside t.old).names count u lp br first marks t.old t.new result }
 {
     let e = calls::enter(s, t, u, first);
-    if e.ok {
-        let r = list(s, count, t, e.under, e.body, marks, lp, br, 32);
-        frames::put::clear(t, u.top, e.under.top);
-        return items::made(e.word, r.marks);
-    }
-    plain::stays::refused(t, e.word, marks, u.at)
+    let Some(inside) = e.expanded else {
+        return plain::stays::refused(t, e.word, marks, u.at);
+    };
+    let r = list(s, count, t, inside.under, inside.body, marks, lp, br, 32);
+    frames::put::clear(t, u.top, inside.under.top);
+    items::made(e.word, r.marks)
 }
 
 // A call in the program's own text: read if it passes no size by itself (P13); the levels that it opens are told at its place.

@@ -18,12 +18,6 @@ returns-then-not-fits c = refused c.loop-word.invariant c.sort_of-sort.ensures c
 pub returns-in-Last : goal.returns-in-Last
 returns-in-Last c = all_allowed c.loop-word.invariant c.sort_of-sort.ensures c.asked.ensures c.fits.ensures (c.if-not-fits.false) (ap sort_number c.in-Last.is)
 
-pub next-state-requires : goal.next-state-requires
-next-state-requires c = omega (arith, c.loop-word.invariant.small)
-
-pub word_from-word-requires : goal.word_from-word-requires
-word_from-word-requires c = (c.loop-word.invariant.near.short, c.loop-word.invariant.near.inside)
-
 pub loop-word-smaller : goal.loop-word-smaller
 loop-word-smaller c = omega (arith, c.loop-word.invariant.near.more (omega (arith, c.if-word-gt-ENDCOMPRESS.false)), c.loop-word.invariant.near.inside, c.word_from-word.ensures.later)
 

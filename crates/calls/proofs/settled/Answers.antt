@@ -7,4 +7,4 @@ pub returns-then-allowed : goal.returns-then-allowed
 returns-then-allowed c = settled_ok c.put_frame.ensures c.allowed.ensures c.if-allowed.true
 
 pub returns : goal.returns
-returns c = settled_not c.put_frame.ensures c.allowed.ensures c.if-allowed.false c.clear.ensures c.stays.ensures
+returns c = settled_not c.put_frame.ensures c.allowed.ensures c.if-allowed.false c.clear.ensures

@@ -21,11 +21,11 @@ branches-loop-at-preserved t c = branches_on c.loop-at-test.true c.word_from-v.e
 pub branches-returns : goal.branches-returns
 branches-returns t c = branches_end c.made-at.ensures c.loop-at-test.false c.loop-at.invariant
 
-pub call-returns : goal.call-returns
-call-returns t c = call_stays c.requires.0 c.requires.1 c.requires.2 c.enter-e.ensures c.if-e.false c.begun.ensures c.made-2.ensures
+pub call-returns-in_default : goal.call-returns-in_default
+call-returns-in_default t c = call_stays c.requires.0 c.requires.1 c.requires.2 c.enter-e.ensures c.in_default.is c.begun.ensures c.made-in_default.ensures
 
-pub call-returns-then-e : goal.call-returns-then-e
-call-returns-then-e t c = call-body c.requires.0 c.requires.1 c.requires.2 c.enter-e.ensures c.if-e.true c.list-a.ensures c.clear.ensures c.made-then-e.ensures
+pub call-returns : goal.call-returns
+call-returns t c = call-body c.requires.0 c.requires.1 c.requires.2 c.enter-e.ensures c.in-Some.is c.list-a.ensures c.clear.ensures c.made-2.ensures
 
 pub call-returns-then-none_left : goal.call-returns-then-none_left
 call-returns-then-none_left t c = call_full c.requires.0 c.requires.1 c.requires.2 c.none_left.ensures c.if-none_left.true c.hand_over-h.ensures c.word_from.ensures c.full.ensures c.made.ensures
