@@ -11,11 +11,20 @@ use words::kinds;
 mod rows;
 mod step;
 
-// `list` stays a number: `Listed`, `More` and `LeftBy` of specs/Left, and `Opened` and `StepCame` of specs/Came, go by it.
-// Where a reader of declarations is: 0 behind them, else at a declared name of 1 inputs, 2 outputs, 3 internals, 4 integers, 5 at a procedure's.
+// What a declaration has names of.
+#[derive(Clone, Copy, PartialEq, Eq)]
+pub enum List {
+    Inputs,
+    Outputs,
+    Internals,
+    Integers,
+    Procedures,
+}
+
+// Where a reader of declarations is: at a declared name of a list, or with no list behind them.
 #[derive(Clone, Copy)]
 pub struct At {
-    pub list: u8,
+    pub list: Option<List>,
     pub word: Here,
 }
 
@@ -56,10 +65,13 @@ fn outputs(s: &[u8], first: At) -> u8
     let mut at = first;
     let mut n: u8 = 0;
     loop {
-        if at.list == 0 || at.word.kind != kinds::NAME {
+        let Some(list) = at.list else {
+            return n;
+        };
+        if at.word.kind != kinds::NAME {
             return n;
         }
-        let t = step::step(s, at);
+        let t = step::step(s, list, at.word);
         n = enter::counted(n, t.item.kind, 1);
         at = t.at;
     }
@@ -74,14 +86,18 @@ fn enter_all(s: &[u8], t: &mut [u8], first: At, marks: Marks) -> Read
     let mut m = marks;
     let mut n: u16 = 0;
     loop {
-        if at.list == 0 || at.word.kind != kinds::NAME {
-            return Read {
-                marks: m,
-                procedures: n,
-                word: at.word,
-            };
+        let here = Read {
+            marks: m,
+            procedures: n,
+            word: at.word,
+        };
+        let Some(list) = at.list else {
+            return here;
+        };
+        if at.word.kind != kinds::NAME {
+            return here;
         }
-        let x = step::step(s, at);
+        let x = step::step(s, list, at.word);
         if x.item.kind == 4 {
             m = rows::procedure_in(s, t, m, n, x.item);
             n += 1;

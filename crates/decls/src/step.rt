@@ -1,10 +1,11 @@
 // One declared name after the other.
-ghost use Rattle.std.specs.Prelude.{◌≡◌, ◌≤◌, length};
+ghost use Rattle.std.specs.Prelude.{◌≡◌, ◌≤◌, ◌+◌, length, Some};
 ghost use Rattle.hand.specs.Along.{Near};
-ghost use Rattle.decls.specs.Came.{Ended, BooleanStarted, IntegerStarted, NamedCame, Reached, After, Opened, StepCame, BeginCame, Ready};
-ghost use Rattle.decls.specs.Left.{list_of};
+ghost use Rattle.decls.specs.Came.{Ended, BooleanStarted, IntegerStarted, NamedCame, Reached, After, Opened, StepCame, BeginCame};
+ghost use Rattle.decls.specs.declared.List.TheVariants.{Procedures};
+ghost use Rattle.decls.specs.Left.{list_of, list_number};
 
-use crate::{At, Named, Started, Turn};
+use crate::{At, List, Named, Started, Turn};
 use hand::{Here, word_from};
 use names::Item;
 use words::kinds;
@@ -86,25 +87,15 @@ fn integer(s: &[u8], h: Here) -> Named
     }
 }
 
-// A declared name of a list, with all that belongs to it.
-fn named(s: &[u8], list: u8, h: Here) -> Named
-    requires { Near s.now h × (1 ≤ list) × (list ≤ 4) }
-    ensures { NamedCame s.now list h result }
+// A declared boolean, an output or an internal, with its ending and its initial value.
+fn boolean(s: &[u8], h: Here, kind: u8) -> Named
+    requires { Near s.now h × (1 ≤ kind) × (kind ≤ 2) }
+    ensures { NamedCame s.now (kind + 1) h result }
 {
-    if list == 4 {
-        return integer(s, h);
-    }
-    let e = ending(s, word_from(s, h.next));
-    if list == 1 {
-        return Named {
-            item: bare(h),
-            word: e,
-        };
-    }
-    let g = boolean_start(s, e);
+    let g = boolean_start(s, ending(s, word_from(s, h.next)));
     Named {
         item: Item {
-            kind: list - 1,
+            kind,
             width: 1,
             value: g.value,
             ..bare(h)
@@ -113,18 +104,29 @@ fn named(s: &[u8], list: u8, h: Here) -> Named
     }
 }
 
-// The list that a declaration's first word opens: 5 for a procedure, 0 where it opens none.
+// A declared input, with its ending.
+fn input(s: &[u8], h: Here) -> Named
+    requires { Near s.now h }
+    ensures { NamedCame s.now 1 h result }
+{
+    Named {
+        item: bare(h),
+        word: ending(s, word_from(s, h.next)),
+    }
+}
+
+// The list that a declaration's first word opens.
 #[tactic(auto, unfolding(crate::specs::Left::list_of))]
-fn list_of(kind: u8) -> u8
-    ensures { result ≡ list_of kind }
+fn list_of(kind: u8) -> Option<List>
+    ensures { list_number result ≡ list_of kind }
 {
     match kind {
-        kinds::INPUT => 1,
-        kinds::OUTPUT => 2,
-        kinds::INTERNAL => 3,
-        kinds::INTEGER => 4,
-        kinds::PROCEDURE => 5,
-        _ => 0,
+        kinds::INPUT => Some(List::Inputs),
+        kinds::OUTPUT => Some(List::Outputs),
+        kinds::INTERNAL => Some(List::Internals),
+        kinds::INTEGER => Some(List::Integers),
+        kinds::PROCEDURE => Some(List::Procedures),
+        _ => None,
     }
 }
 
@@ -133,25 +135,31 @@ fn opened(s: &[u8], h: Here) -> At
     requires { Near s.now h }
     ensures { Opened s.now h result }
 {
-    let list = list_of(h.kind);
-    At {
-        list,
-        word: if list == 0 { h } else { word_from(s, h.next) },
+    match list_of(h.kind) {
+        None => At {
+            list: None,
+            word: h,
+        },
+        Some(list) => At {
+            list: Some(list),
+            word: word_from(s, h.next),
+        },
     }
 }
 
-// One declared variable, and where the next name is.
-fn variable(s: &[u8], at: At) -> Turn
-    requires { Ready s.now at × (1 ≤ at.list) × (at.list ≤ 4) × (at.word.kind ≡ 0) }
-    ensures { StepCame s.now at result }
+// A variable of a list was read: where the next name is.
+fn behind(s: &[u8], list: List, h: Here, n: Named) -> Turn
+    requires { Near s.now h × (list_number (Some list) ≤ 4) × (h.kind ≡ 0) × NamedCame s.now (list_number (Some list)) h n }
+    ensures { StepCame s.now (record { list = Some list; word = h }) result }
 {
-    let h = at.word;
-    let n = named(s, at.list, h);
     let v = word_from(s, n.word.next);
     Turn {
         item: n.item,
         at: if n.word.kind == kinds::COMMA {
-            At { word: v, ..at }
+            At {
+                list: Some(list),
+                word: v,
+            }
         } else {
             opened(s, v)
         },
@@ -185,11 +193,10 @@ fn after(s: &[u8], h: Here) -> Here
 }
 
 // A procedure's name, its body passed over, and where the next name is.
-fn procedure(s: &[u8], at: At) -> Turn
-    requires { Ready s.now at × (at.list ≡ 5) × (at.word.kind ≡ 0) }
-    ensures { StepCame s.now at result }
+fn procedure(s: &[u8], h: Here) -> Turn
+    requires { Near s.now h × (h.kind ≡ 0) }
+    ensures { StepCame s.now (record { list = Some Procedures; word = h }) result }
 {
-    let h = at.word;
     let e = reached(s, word_from(s, h.next));
     let v = after(s, word_from(s, e.next));
     Turn {
@@ -199,14 +206,16 @@ fn procedure(s: &[u8], at: At) -> Turn
 }
 
 // One declared name, and where the next one is.
-pub fn step(s: &[u8], at: At) -> Turn
-    requires { Ready s.now at × (1 ≤ at.list) × (at.word.kind ≡ 0) }
-    ensures { StepCame s.now at result }
+pub fn step(s: &[u8], list: List, h: Here) -> Turn
+    requires { Near s.now h × (h.kind ≡ 0) }
+    ensures { StepCame s.now (record { list = Some list; word = h }) result }
 {
-    if at.list == 5 {
-        procedure(s, at)
-    } else {
-        variable(s, at)
+    match list {
+        List::Inputs => behind(s, list, h, input(s, h)),
+        List::Outputs => behind(s, list, h, boolean(s, h, 1)),
+        List::Internals => behind(s, list, h, boolean(s, h, 2)),
+        List::Integers => behind(s, list, h, integer(s, h)),
+        List::Procedures => procedure(s, h),
     }
 }
 
