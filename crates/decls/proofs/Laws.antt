@@ -20,6 +20,9 @@ use Rattle.language.specs.Grammar.{Program, Statements, Declarations, AfterProce
 use Rattle.language.specs.Grammar as grammar
 use Rattle.language.specs.Trees.{Name, name_at, number_at}
 use Rattle.names.specs.declared.Item.{Item}
+use Rattle.names.specs.declared.Kind.{Kind}
+use Rattle.names.specs.declared.Kind.TheVariants as kinds
+use Rattle.names.specs.Enter.{kind_number}
 use Rattle.language.proofs.Claims.{claims, first, empty, follow}
 use Rattle.words.specs.Kinds.{numbered, spellings, kind_count}
 use Rattle.words.specs.Runs.{part}
@@ -33,8 +36,6 @@ use Rattle.hand.specs.Along.{Along, Same, Stands, Near, Begins}
 use Rattle.hand.proofs.Chosen.{up_to, agrees, Decides, called-row}
 use Rattle.names.specs.Look.{value_of, second_of, width_at}
 use Rattle.decls.specs.declared.At.{At}
-use Rattle.decls.specs.declared.List as coded
-use Rattle.decls.specs.declared.List.TheVariants as lists
 use Rattle.decls.specs.declared.Started.{Started}
 use Rattle.decls.specs.declared.Named.{Named}
 use Rattle.decls.specs.declared.Turn.{Turn}
@@ -245,17 +246,17 @@ module _ {s : List ℕ} {h : Here} {w : Word} (n : Near s h) (st : Same s h w) (
   inside : w.place < 8192
   inside = omega (arith, st.place, n.more st.known, n.inside, n.short)
 
-  is_input : (e : declared.Ending) → Is s (inputs (name_at w) e) (record { kind = 0; place = h.place; next = h.next; number = 0; width = 0; value = 0 })
+  is_input : (e : declared.Ending) → Is s (inputs (name_at w) e) (record { kind = kinds.Input; place = h.place; next = h.next; number = 0; width = 0; value = 0 })
   is_input e = record { lies = record { bytes = lies-bytes; short = short; inside = inside; number = omega arith; width = tt }; kind = refl; place = st.place; next = end_is; number = refl; width = refl; value = refl }
 
-  is_output : (e : declared.Ending) (b : Bool) (v : ℕ) → v ≡ as_bit b → Is s (outputs (name_at w) e b) (record { kind = 1; place = h.place; next = h.next; number = 0; width = 1; value = v })
+  is_output : (e : declared.Ending) (b : Bool) (v : ℕ) → v ≡ as_bit b → Is s (outputs (name_at w) e b) (record { kind = kinds.Output; place = h.place; next = h.next; number = 0; width = 1; value = v })
   is_output e b v q = record { lies = record { bytes = lies-bytes; short = short; inside = inside; number = omega arith; width = tt }; kind = refl; place = st.place; next = end_is; number = refl; width = refl; value = q }
 
-  is_internal : (e : declared.Ending) (b : Bool) (v : ℕ) → v ≡ as_bit b → Is s (internals (name_at w) e b) (record { kind = 2; place = h.place; next = h.next; number = 0; width = 1; value = v })
+  is_internal : (e : declared.Ending) (b : Bool) (v : ℕ) → v ≡ as_bit b → Is s (internals (name_at w) e b) (record { kind = kinds.Internal; place = h.place; next = h.next; number = 0; width = 1; value = v })
   is_internal e b v q = record { lies = record { bytes = lies-bytes; short = short; inside = inside; number = omega arith; width = tt }; kind = refl; place = st.place; next = end_is; number = refl; width = refl; value = q }
 
   is_integer : (p q v i x : ℕ) → q ≡ p → q ≤ 8192 → width_at s h.next ≡ v → x ≡ v
-      → (j : ℕ) → j ≡ i → Is s (integers (name_at w) p v i) (record { kind = 3; place = h.place; next = h.next; number = q; width = x; value = j })
+      → (j : ℕ) → j ≡ i → Is s (integers (name_at w) p v i) (record { kind = kinds.Integer; place = h.place; next = h.next; number = q; width = x; value = j })
   is_integer p q v i x e r f g j z = record { lies = record { bytes = lies-bytes; short = short; inside = inside; number = omega (arith, e, r); width = rw (← end_is) f }; kind = refl; place = st.place; next = end_is; number = e; width = g; value = z }
 
 -- the width that is written behind a name
@@ -265,43 +266,44 @@ width-behind s from o m tail k (a, (b, c)) = rw (a, b, k) refl
 
 module _ {s : List ℕ} {h after : Here} (n : Near s h) (b : Begins s h.next after) where
   module _ {e : Here} (d : Ended s after e) where
-    pub named-input : NamedCame s 1 h (record { item = record { kind = 0; place = h.place; next = h.next; number = 0; width = 0; value = 0 }; word = e })
+    pub named-input : NamedCame s 1 h (record { item = record { kind = kinds.Input; place = h.place; next = h.next; number = 0; width = 0; value = 0 }; word = e })
     named-input = record { near = d.near; later = omega (arith, b.later, d.later); kind = omega arith; place = refl; next = refl; told = told }
       where
         told : (ws : Text) → Stands s h ws → (f k : ℕ) (ds : Declared) (rest : Text) → Listed 1 f k ws ds rest
-            → NamedOne s 1 k ds rest (record { item = record { kind = 0; place = h.place; next = h.next; number = 0; width = 0; value = 0 }; word = e })
+            → NamedOne s 1 k ds rest (record { item = record { kind = kinds.Input; place = h.place; next = h.next; number = 0; width = 0; value = 0 }; word = e })
         told ws st f k ds rest x =
             let (g, i, p, row) = inputs-told f k ws ds rest x in let (w, tail, mid, z, es, a, q, y, u, v) = row in
             let t : Stands s h (w ∷ tail) = subst (Stands s h) a st in
             record { one = inputs (name_at w) z; on = es; mid = mid; fuel = g; all = v; is = is_input n t.0 q z; stands = d.told tail (b.stands tail t.1) g k z mid y; more = u }
 
     module _ {r : Started} (c : BooleanStarted s e r) where
-      abbrev BooleanName : ℕ → Named
+      abbrev BooleanName : Kind → Named
       BooleanName l = record { item = record { kind = l; place = h.place; next = h.next; number = 0; width = 1; value = r.value }; word = r.word }
 
-      told-boolean : (l : ℕ) → 1 ≤ l → l ≤ 2 → (ws : Text) → Stands s h ws → (f k : ℕ) (ds : Declared) (rest : Text) → Listed (l + 1) f k ws ds rest → NamedOne s (l + 1) k ds rest (BooleanName l)
-      told-boolean zero g₀ j₀ ws st f k ds rest x = absurd (omega (arith, g₀))
-      told-boolean (suc zero) g₀ j₀ ws st f k ds rest (m, x, made) =
+      told-boolean : (l : Kind) → 1 ≤ kind_number l → kind_number l ≤ 2 → (ws : Text) → Stands s h ws → (f k : ℕ) (ds : Declared) (rest : Text) → Listed (list_number (Some l)) f k ws ds rest → NamedOne s (list_number (Some l)) k ds rest (BooleanName l)
+      told-boolean kinds.Input g₀ j₀ ws st f k ds rest x = absurd (omega (arith, g₀))
+      told-boolean kinds.Output g₀ j₀ ws st f k ds rest (m, x, made) =
           let (g, i, p, row) = booleans_told f k ws m rest x in let (w, tail, mid, low, z, v, es, a, q, y, u, l, made₁) = row in
           let t : Stands s h (w ∷ tail) = subst (Stands s h) a st in
           let (o, value) = c.told mid (d.told tail (b.stands tail t.1) g k z mid y) g k v low u in
           record { one = outputs (name_at w) z v; on = es outputs; mid = low; fuel = g; all = made ∙ ap (λ (x : Maker → Declared). x outputs) made₁; is = is_output n t.0 q z v r.value value; stands = o; more = (es, l, refl) }
-      told-boolean (suc (suc zero)) g₀ j₀ ws st f k ds rest (m, x, made) =
+      told-boolean kinds.Internal g₀ j₀ ws st f k ds rest (m, x, made) =
           let (g, i, p, row) = booleans_told f k ws m rest x in let (w, tail, mid, low, z, v, es, a, q, y, u, l, made₁) = row in
           let t : Stands s h (w ∷ tail) = subst (Stands s h) a st in
           let (o, value) = c.told mid (d.told tail (b.stands tail t.1) g k z mid y) g k v low u in
           record { one = internals (name_at w) z v; on = es internals; mid = low; fuel = g; all = made ∙ ap (λ (x : Maker → Declared). x internals) made₁; is = is_internal n t.0 q z v r.value value; stands = o; more = (es, l, refl) }
-      told-boolean (suc (suc (suc l))) g₀ j₀ ws st f k ds rest x = absurd (omega (arith, j₀))
+      told-boolean kinds.Integer g₀ j₀ ws st f k ds rest x = absurd (omega (arith, j₀))
+      told-boolean kinds.Procedure g₀ j₀ ws st f k ds rest x = absurd (omega (arith, j₀))
 
-      pub named-boolean : {l : ℕ} → 1 ≤ l → l ≤ 2 → NamedCame s (l + 1) h (BooleanName l)
+      pub named-boolean : {l : Kind} → 1 ≤ kind_number l → kind_number l ≤ 2 → NamedCame s (list_number (Some l)) h (BooleanName l)
       named-boolean {l} g j = record { near = c.near; later = omega (arith, b.later, d.later, c.later); kind = omega (arith, j); place = refl; next = refl; told = told-boolean l g j }
 
   module _ {m close low : Here} {r : Started} (bm : Begins s after.next m) (bc : Begins s m.next close) (bl : Begins s close.next low) (c : IntegerStarted s low r) where
-    pub named-integer : NamedCame s 4 h (record { item = record { kind = 3; place = h.place; next = h.next; number = m.place; width = m.value; value = r.value }; word = r.word })
+    pub named-integer : NamedCame s 4 h (record { item = record { kind = kinds.Integer; place = h.place; next = h.next; number = m.place; width = m.value; value = r.value }; word = r.word })
     named-integer = record { near = c.near; later = omega (arith, b.later, begins-later b.near bm, begins-later bm.near bc, begins-later bc.near bl, c.later); kind = omega arith; place = refl; next = refl; told = told }
       where
         told : (ws : Text) → Stands s h ws → (f k : ℕ) (ds : Declared) (rest : Text) → Listed 4 f k ws ds rest
-            → NamedOne s 4 k ds rest (record { item = record { kind = 3; place = h.place; next = h.next; number = m.place; width = m.value; value = r.value }; word = r.word })
+            → NamedOne s 4 k ds rest (record { item = record { kind = kinds.Integer; place = h.place; next = h.next; number = m.place; width = m.value; value = r.value }; word = r.word })
         told ws st f k ds rest x =
             let (g, i, p, row) = integers-told f k ws ds rest x in let (w, o, u, cl, tail, mid, v, es, a, q, nk, y, l, all) = row in
             let t : Stands s h (w ∷ o ∷ u ∷ cl ∷ tail) = subst (Stands s h) a st in
@@ -323,22 +325,15 @@ module _ {s : List ℕ} {h after : Here} (n : Near s h) (b : Begins s h.next aft
 
 -- ---- the number of a list
 
-list-some : (l : coded.List) → 1 ≤ list_number (Some l)
-list-some lists.Inputs = omega arith
-list-some lists.Outputs = omega arith
-list-some lists.Internals = omega arith
-list-some lists.Integers = omega arith
-list-some lists.Procedures = omega arith
+pub list-most : (l : Kind) → list_number (Some l) ≤ 5
+list-most kinds.Input = omega arith
+list-most kinds.Output = omega arith
+list-most kinds.Internal = omega arith
+list-most kinds.Integer = omega arith
+list-most kinds.Procedure = omega arith
 
-pub list-most : (l : coded.List) → list_number (Some l) ≤ 5
-list-most lists.Inputs = omega arith
-list-most lists.Outputs = omega arith
-list-most lists.Internals = omega arith
-list-most lists.Integers = omega arith
-list-most lists.Procedures = omega arith
-
-pub some-list : {o : Optional coded.List} {l : coded.List} → o ≡ Some l → 1 ≤ list_number o
-some-list {l = l} e = omega (arith, ap list_number e, list-some l)
+pub some-list : {o : Optional Kind} {l : Kind} → o ≡ Some l → 1 ≤ list_number o
+some-list e = omega (arith, ap list_number e)
 
 -- ---- behind a `;`
 
@@ -395,17 +390,14 @@ module _ {s : List ℕ} {h : Here} (n : Near s h) where
           let (a, u) = subst (DeclarationsRow g k ws ds rest) q row in
           (a, subst (Stands s h) u st)
 
-  pub opened-list : {l : coded.List} {v : Here} → list_number (Some l) ≡ list_of h.kind → Begins s h.next v → Opened s h (record { list = Some l; word = v })
-  opened-list {l} {v} e b = record { near = b.near; list = m; from = begins-later n b; later = λ g. omega (arith, n.more (list-known h.kind (omega (arith, e, z))), b.later); told = told }
+  pub opened-list : {l : Kind} {v : Here} → list_number (Some l) ≡ list_of h.kind → Begins s h.next v → Opened s h (record { list = Some l; word = v })
+  opened-list {l} {v} e b = record { near = b.near; list = m; from = begins-later n b; later = λ g. omega (arith, n.more (list-known h.kind (omega (arith, e))), b.later); told = told }
     where
       m : list_number (Some l) ≤ 5
       m = list-most l
 
-      z : 1 ≤ list_number (Some l)
-      z = list-some l
-
       some : ¬ (list_of h.kind ≡ 0)
-      some q = omega (arith, e, q, z)
+      some q = omega (arith, e, q)
 
       list-row : eqb (list_of h.kind) 5 ≡ false → lists_row h.kind ≡ 1
       list-row q = rw (ne_eqb (list_of h.kind) 0 some, q) refl
@@ -435,7 +427,7 @@ module _ {s : List ℕ} {h : Here} (n : Near s h) where
               let (g₁, j, p₁, row₁) = declaration_told g k ws here (c ∷ mid) y in
               let q₁ : list_of h.kind - 1 ≡ j = called-row s grammar.Declaration list_row all_list h ws j st p₁ in
               let (w, tail, a, x₁) = listed_by j g₁ k ws here (c ∷ mid) row₁ in
-              named j (omega (arith, e, q₁, z)) (omega (arith, m, e, eqb-false (list_of h.kind) 5 t)) ds rest (record { fuel = g₁; levels = k; few = few; words = tail; close = c; mid = mid; here = here; on = others; stands = on h b st a; listed = x₁; others = (g, u); all = all })
+              named j (omega (arith, e, q₁)) (omega (arith, m, e, eqb-false (list_of h.kind) 5 t)) ds rest (record { fuel = g₁; levels = k; few = few; words = tail; close = c; mid = mid; here = here; on = others; stands = on h b st a; listed = x₁; others = (g, u); all = all })
 
 -- ---- what follows a name
 
@@ -537,8 +529,8 @@ module _ {s : List ℕ} {a : At} (ready : Ready s a) (some : 1 ≤ list_number a
           }
 
 -- .. from a list that a match has
-pub from-list : {s : List ℕ} {a : At} {l : coded.List} {t : Turn} → a.list ≡ Some l → StepCame s (record { list = Some l; word = a.word }) t → StepCame s a t
-from-list {s} {a} {t = t} e c = subst (λ (o : Optional coded.List). StepCame s (record { list = o; word = a.word }) t) (sym e) c
+pub from-list : {s : List ℕ} {a : At} {l : Kind} {t : Turn} → a.list ≡ Some l → StepCame s (record { list = Some l; word = a.word }) t → StepCame s a t
+from-list {s} {a} {t = t} e c = subst (λ (o : Optional Kind). StepCame s (record { list = o; word = a.word }) t) (sym e) c
 
 -- ---- a procedure is passed over
 
@@ -627,7 +619,7 @@ module _ {s : List ℕ} {a : At} (ready : Ready s a) (five : list_number a.list 
   here = a.word
 
   abbrev procedure_item : Item
-  procedure_item = record { kind = 4; place = here.place; next = here.next; number = 0; width = 0; value = 0 }
+  procedure_item = record { kind = kinds.Procedure; place = here.place; next = here.next; number = 0; width = 0; value = 0 }
 
   some_on : here.place < here.next
   some_on = ready.near.more (omega (arith, known))

@@ -27,7 +27,7 @@ use Rattle.decls.specs.declared.Turn.{Turn}
 use Rattle.names.specs.declared.Marks.{Marks}
 use Rattle.decls.specs.declared.Read.{Read}
 use Rattle.names.specs.Look.{width_at}
-use Rattle.names.specs.Enter.{cap, tag_of, width_place, start_of, start_marks}
+use Rattle.names.specs.Enter.{kind_number, cap, tag_of, width_place, start_of, start_marks}
 use Rattle.decls.specs.Left.{Several, list_number, Listed, More, Left}
 use Rattle.decls.specs.Held.{known_in, formals_noted, Held, enter_variable, enter_procedure, enter_each, asked_by, asked}
 
@@ -73,7 +73,7 @@ EachLies s (d ∷ ds) = LiesOne s d × EachLies s ds
 -- what was read is this declaration
 pub record Is (s : List ℕ) (d : Declaration) (i : Item) : Type 0 where
   pub lies : Lies s d
-  pub kind : i.kind ≡ tag_of d
+  pub kind : kind_number i.kind ≡ tag_of d
   pub place : i.place ≡ (name_of d).place
   pub next : i.next ≡ (name_of d).place + length (name_of d).bytes
   pub number : i.number ≡ width_place d
@@ -83,7 +83,7 @@ pub record Is (s : List ℕ) (d : Declaration) (i : Item) : Type 0 where
 -- .. this procedure, with its formals behind its name
 pub record IsProcedure (s : List ℕ) (p : unexpanded.Procedure) (i : Item) : Type 0 where
   pub lasts : Lasts s p
-  pub kind : i.kind ≡ 4
+  pub kind : kind_number i.kind ≡ 4
   pub place : i.place ≡ p.name.place
   pub next : i.next ≡ p.name.place + length p.name.bytes
   pub formals : (f : ℕ) × (k : ℕ) × (ws : Text) × (rest : Text) × Along s i.next ws × Told f Formals k ws p.formals rest
@@ -125,7 +125,7 @@ pub record NamedOne (s : List ℕ) (l : ℕ) (k : ℕ) (ds : Declared) (rest : T
 pub record NamedCame (s : List ℕ) (l : ℕ) (h : Here) (r : Named) : Type 0 where
   pub near : Near s r.word
   pub later : h.next ≤ r.word.place
-  pub kind : r.item.kind < 4
+  pub kind : kind_number r.item.kind < 4
   pub place : r.item.place ≡ h.place
   pub next : r.item.next ≡ h.next
   pub told : (ws : Text) → Stands s h ws → (f k : ℕ) (ds : Declared) (rest : Text) → Listed l f k ws ds rest → NamedOne s l k ds rest r
@@ -170,7 +170,7 @@ pub record StepCame (s : List ℕ) (a : At) (r : Turn) : Type 0 where
   pub list : list_number r.at.list ≤ 5
   pub on : a.word.place < r.at.word.place
   pub later : 1 ≤ list_number r.at.list → a.word.place + 2 ≤ r.at.word.place
-  pub kind : r.item.kind ≤ 4
+  pub kind : kind_number r.item.kind ≤ 4
   pub place : r.item.place ≡ a.word.place
   pub next : r.item.next ≡ a.word.next
   pub told : (ds : Several) (rest : Text) → Left s a ds rest → Stepped s a ds rest r

@@ -11,8 +11,8 @@ use Rattle.descent_law.specs.Declarations.{Declared, Maker}
 use Rattle.hand.specs.declared.Here.{Here}
 use Rattle.hand.specs.Along.{Along, Stands}
 use Rattle.decls.specs.declared.At.{At}
-use Rattle.decls.specs.declared.List as coded
-use Rattle.decls.specs.declared.List.TheVariants as lists
+use Rattle.names.specs.declared.Kind.{Kind}
+use Rattle.names.specs.Enter.{kind_number}
 
 abbrev Text : Type 0
 Text = List Word
@@ -21,14 +21,10 @@ Text = List Word
 unfoldable pub list_of : ℕ → ℕ
 list_of k = cond (eqb k 28) 1 (cond (eqb k 29) 2 (cond (eqb k 30) 3 (cond (eqb k 31) 4 (cond (eqb k 56) 5 0))))
 
--- the number of a list in code; 0 with none
-abbrev pub list_number : Optional coded.List → ℕ
+-- the number of a list in code, by the kind of its names; 0 with none
+abbrev pub list_number : Optional Kind → ℕ
 list_number None = 0
-list_number (Some lists.Inputs) = 1
-list_number (Some lists.Outputs) = 2
-list_number (Some lists.Internals) = 3
-list_number (Some lists.Integers) = 4
-list_number (Some lists.Procedures) = 5
+list_number (Some kind) = suc (kind_number kind)
 
 -- booleans of one kind
 abbrev pub Made : (Maker → Declared) → Maker → Declared → Type 0

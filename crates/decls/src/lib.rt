@@ -5,26 +5,16 @@ ghost use Rattle.std.specs.Prelude.{◌≡◌, ◌≤◌, length};
 ghost use Rattle.decls.specs.Came.{Ready, OutputsCame, EnterCame, Came};
 
 use hand::Here;
-use names::{Item, Marks, enter};
+use names::{Item, Kind, Marks, enter};
 use words::kinds;
 
 mod rows;
 mod step;
 
-// What a declaration has names of.
-#[derive(Clone, Copy, PartialEq, Eq)]
-pub enum List {
-    Inputs,
-    Outputs,
-    Internals,
-    Integers,
-    Procedures,
-}
-
-// Where a reader of declarations is: at a declared name of a list, or with no list behind them.
+// Where a reader of declarations is: at a name of a list of one kind, or with no list behind them.
 #[derive(Clone, Copy)]
 pub struct At {
-    pub list: Option<List>,
+    pub list: Option<Kind>,
     pub word: Here,
 }
 
@@ -65,14 +55,14 @@ fn outputs(s: &[u8], first: At) -> u8
     let mut at = first;
     let mut n: u8 = 0;
     loop {
-        let Some(list) = at.list else {
+        let Some(kind) = at.list else {
             return n;
         };
         if at.word.kind != kinds::NAME {
             return n;
         }
-        let t = step::step(s, list, at.word);
-        n = enter::counted(n, t.item.kind, 1);
+        let t = step::step(s, kind, at.word);
+        n = enter::counted(n, t.item.kind, Kind::Output);
         at = t.at;
     }
 }
@@ -91,18 +81,19 @@ fn enter_all(s: &[u8], t: &mut [u8], first: At, marks: Marks) -> Read
             procedures: n,
             word: at.word,
         };
-        let Some(list) = at.list else {
+        let Some(kind) = at.list else {
             return here;
         };
         if at.word.kind != kinds::NAME {
             return here;
         }
-        let x = step::step(s, list, at.word);
-        if x.item.kind == 4 {
-            m = rows::procedure_in(s, t, m, n, x.item);
-            n += 1;
-        } else {
-            m = rows::variable_in(s, t, m, n, x.item);
+        let x = step::step(s, kind, at.word);
+        match x.item.kind {
+            Kind::Procedure => {
+                m = rows::procedure_in(s, t, m, n, x.item);
+                n += 1;
+            }
+            _ => m = rows::variable_in(s, t, m, n, x.item),
         }
         at = x.at;
     }

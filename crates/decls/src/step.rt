@@ -1,13 +1,14 @@
 // One declared name after the other.
-ghost use Rattle.std.specs.Prelude.{◌≡◌, ◌≤◌, ◌+◌, length, Some};
+ghost use Rattle.std.specs.Prelude.{◌≡◌, ◌≤◌, ◌<◌, length, Some};
 ghost use Rattle.hand.specs.Along.{Near};
 ghost use Rattle.decls.specs.Came.{Ended, BooleanStarted, IntegerStarted, NamedCame, Reached, After, Opened, StepCame, BeginCame};
-ghost use Rattle.decls.specs.declared.List.TheVariants.{Procedures};
+ghost use Rattle.names.specs.Enter.{kind_number};
+ghost use Rattle.names.specs.declared.Kind.TheVariants as kind;
 ghost use Rattle.decls.specs.Left.{list_of, list_number};
 
-use crate::{At, List, Named, Started, Turn};
+use crate::{At, Named, Started, Turn};
 use hand::{Here, word_from};
-use names::Item;
+use names::{Item, Kind};
 use words::kinds;
 
 // `.H` or `.L`, or neither.
@@ -54,10 +55,10 @@ fn integer_start(s: &[u8], h: Here) -> Started
 
 // A declared name by itself, as an input's is.
 fn bare(h: Here) -> Item
-    ensures { result ≡ record { kind = 0; place = h.place; next = h.next; number = 0; width = 0; value = 0 } }
+    ensures { result ≡ record { kind = kind.Input; place = h.place; next = h.next; number = 0; width = 0; value = 0 } }
 {
     Item {
-        kind: 0,
+        kind: Kind::Input,
         place: h.place,
         next: h.next,
         number: 0,
@@ -77,7 +78,7 @@ fn integer(s: &[u8], h: Here) -> Named
     let g = integer_start(s, word_from(s, c.next));
     Named {
         item: Item {
-            kind: 3,
+            kind: Kind::Integer,
             number: n.place,
             width: n.value,
             value: g.value,
@@ -88,9 +89,9 @@ fn integer(s: &[u8], h: Here) -> Named
 }
 
 // A declared boolean, an output or an internal, with its ending and its initial value.
-fn boolean(s: &[u8], h: Here, kind: u8) -> Named
-    requires { Near s.now h × (1 ≤ kind) × (kind ≤ 2) }
-    ensures { NamedCame s.now (kind + 1) h result }
+fn boolean(s: &[u8], kind: Kind, h: Here) -> Named
+    requires { Near s.now h × (1 ≤ kind_number kind) × (kind_number kind ≤ 2) }
+    ensures { NamedCame s.now (list_number (Some kind)) h result }
 {
     let g = boolean_start(s, ending(s, word_from(s, h.next)));
     Named {
@@ -115,17 +116,17 @@ fn input(s: &[u8], h: Here) -> Named
     }
 }
 
-// The list that a declaration's first word opens.
+// What a declaration's first word opens a list of.
 #[tactic(auto, unfolding(crate::specs::Left::list_of))]
-fn list_of(kind: u8) -> Option<List>
+fn list_of(kind: u8) -> Option<Kind>
     ensures { list_number result ≡ list_of kind }
 {
     match kind {
-        kinds::INPUT => Some(List::Inputs),
-        kinds::OUTPUT => Some(List::Outputs),
-        kinds::INTERNAL => Some(List::Internals),
-        kinds::INTEGER => Some(List::Integers),
-        kinds::PROCEDURE => Some(List::Procedures),
+        kinds::INPUT => Some(Kind::Input),
+        kinds::OUTPUT => Some(Kind::Output),
+        kinds::INTERNAL => Some(Kind::Internal),
+        kinds::INTEGER => Some(Kind::Integer),
+        kinds::PROCEDURE => Some(Kind::Procedure),
         _ => None,
     }
 }
@@ -140,24 +141,24 @@ fn opened(s: &[u8], h: Here) -> At
             list: None,
             word: h,
         },
-        Some(list) => At {
-            list: Some(list),
+        Some(kind) => At {
+            list: Some(kind),
             word: word_from(s, h.next),
         },
     }
 }
 
-// A variable of a list was read: where the next name is.
-fn behind(s: &[u8], list: List, h: Here, n: Named) -> Turn
-    requires { Near s.now h × (list_number (Some list) ≤ 4) × (h.kind ≡ 0) × NamedCame s.now (list_number (Some list)) h n }
-    ensures { StepCame s.now (record { list = Some list; word = h }) result }
+// A variable of a kind was read: where the next name is.
+fn behind(s: &[u8], kind: Kind, h: Here, n: Named) -> Turn
+    requires { Near s.now h × (kind_number kind < 4) × (h.kind ≡ 0) × NamedCame s.now (list_number (Some kind)) h n }
+    ensures { StepCame s.now (record { list = Some kind; word = h }) result }
 {
     let v = word_from(s, n.word.next);
     Turn {
         item: n.item,
         at: if n.word.kind == kinds::COMMA {
             At {
-                list: Some(list),
+                list: Some(kind),
                 word: v,
             }
         } else {
@@ -195,27 +196,29 @@ fn after(s: &[u8], h: Here) -> Here
 // A procedure's name, its body passed over, and where the next name is.
 fn procedure(s: &[u8], h: Here) -> Turn
     requires { Near s.now h × (h.kind ≡ 0) }
-    ensures { StepCame s.now (record { list = Some Procedures; word = h }) result }
+    ensures { StepCame s.now (record { list = Some kind.Procedure; word = h }) result }
 {
     let e = reached(s, word_from(s, h.next));
     let v = after(s, word_from(s, e.next));
     Turn {
-        item: Item { kind: 4, ..bare(h) },
+        item: Item {
+            kind: Kind::Procedure,
+            ..bare(h)
+        },
         at: opened(s, v),
     }
 }
 
 // One declared name, and where the next one is.
-pub fn step(s: &[u8], list: List, h: Here) -> Turn
+pub fn step(s: &[u8], kind: Kind, h: Here) -> Turn
     requires { Near s.now h × (h.kind ≡ 0) }
-    ensures { StepCame s.now (record { list = Some list; word = h }) result }
+    ensures { StepCame s.now (record { list = Some kind; word = h }) result }
 {
-    match list {
-        List::Inputs => behind(s, list, h, input(s, h)),
-        List::Outputs => behind(s, list, h, boolean(s, h, 1)),
-        List::Internals => behind(s, list, h, boolean(s, h, 2)),
-        List::Integers => behind(s, list, h, integer(s, h)),
-        List::Procedures => procedure(s, h),
+    match kind {
+        Kind::Input => behind(s, kind, h, input(s, h)),
+        Kind::Output | Kind::Internal => behind(s, kind, h, boolean(s, kind, h)),
+        Kind::Integer => behind(s, kind, h, integer(s, h)),
+        Kind::Procedure => procedure(s, h),
     }
 }
 
