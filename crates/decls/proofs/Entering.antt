@@ -30,7 +30,7 @@ use Rattle.hand.proofs.Chosen.{up_to, agrees, Decides, called-row}
 use Rattle.names.specs.declared.Item.{Item}
 use Rattle.names.specs.declared.Marks.{Marks}
 use Rattle.names.specs.Look.{place_at, put_entry}
-use Rattle.names.specs.Enter.{noted, Kept, put, enter}
+use Rattle.names.specs.Enter.{kind_number, noted, Kept, put, enter}
 use Rattle.names.specs.Came.{kept_of}
 use Rattle.names.proofs.Same.{same_bytes_lem}
 use Rattle.decls.specs.Held.{row_of, row_end, row_in, put_row, known_in, formals_noted, with_six, Held, rowed, enter_variable, enter_procedure}
@@ -248,7 +248,7 @@ module _ {s t : List ℕ} {names n first old from six : ℕ} (g : Noting s t nam
 
 -- what was read is entered as the declaration
 enter_is : {s : List ℕ} {d : Declaration} {i : Item} → Is s d i → (m : Marks) (t : List ℕ)
-    → put s i.kind i.place (min (i.next - i.place) 255) (part s i.place i.next) i.width i.number i.value m t ≡ enter s d m t
+    → put s (kind_number i.kind) i.place (min (i.next - i.place) 255) (part s i.place i.next) i.width i.number i.value m t ≡ enter s d m t
 enter_is {s} {d} {i} x m t =
     let l : min (i.next - i.place) 255 ≡ length (name_of d).bytes = omega (arith, x.place, x.next, x.lies.short) in
     let b : part s i.place i.next ≡ (name_of d).bytes = rw (x.place, x.next) x.lies.bytes in
@@ -267,13 +267,13 @@ unfolding with_six
 six_names m six = refl
 
 pub variable-came : {s t u : List ℕ} {m k r : Marks} {n : ℕ} {i : Item} {clash : Bool} {six : ℕ} → clash ≡ row_in s t n (part s i.place i.next)
-    → kept_of k u ≡ put s i.kind i.place (min (i.next - i.place) 255) (part s i.place i.next) i.width i.number i.value m t
+    → kept_of k u ≡ put s (kind_number i.kind) i.place (min (i.next - i.place) 255) (part s i.place i.next) i.width i.number i.value m t
     → six ≡ noted clash i.place k.six → r ≡ with_six k six → VariableCame s t u m n i r
 unfolding enter_variable
 variable-came {s} {t} {u} {m} {k} {r} {n} {i} {clash} {six} a q e f =
     record {
-      long = ap (λ (y : Kept). length y.bytes) q ∙ long_on s i.kind i.place (min (i.next - i.place) 255) (part s i.place i.next) i.width i.number i.value m t;
-      names = ap (λ (y : Marks). y.names) f ∙ six_names k six ∙ ap (λ (y : Kept). y.marks.names) q ∙ names_on s i.kind i.place (min (i.next - i.place) 255) (part s i.place i.next) i.width i.number i.value m t;
+      long = ap (λ (y : Kept). length y.bytes) q ∙ long_on s (kind_number i.kind) i.place (min (i.next - i.place) 255) (part s i.place i.next) i.width i.number i.value m t;
+      names = ap (λ (y : Marks). y.names) f ∙ six_names k six ∙ ap (λ (y : Kept). y.marks.names) q ∙ names_on s (kind_number i.kind) i.place (min (i.next - i.place) 255) (part s i.place i.next) i.width i.number i.value m t;
       told = told;
     }
   where

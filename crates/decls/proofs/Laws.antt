@@ -1,6 +1,7 @@
 -- The laws of the readers of one declared name: one for each way on.
 -- Assumes nothing.
 use mathlib.Core.Bool.{Bool, true, false, cond}
+use Rattle.std.specs.Prelude.{Option as Optional, Some, None}
 use mathlib.Core.Path.{◌≡◌, refl, sym, ◌∙◌, ap, subst}
 use mathlib.Core.List.{List, [], ◌∷◌, ◌++◌, map}
 use Prim.Native.Nat.{ℕ, zero, suc, ◌+◌, ◌-◌, ◌≤◌, ◌<◌}
@@ -19,6 +20,9 @@ use Rattle.language.specs.Grammar.{Program, Statements, Declarations, AfterProce
 use Rattle.language.specs.Grammar as grammar
 use Rattle.language.specs.Trees.{Name, name_at, number_at}
 use Rattle.names.specs.declared.Item.{Item}
+use Rattle.names.specs.declared.Kind.{Kind}
+use Rattle.names.specs.declared.Kind.TheVariants as kinds
+use Rattle.names.specs.Enter.{kind_number}
 use Rattle.language.proofs.Claims.{claims, first, empty, follow}
 use Rattle.words.specs.Kinds.{numbered, spellings, kind_count}
 use Rattle.words.specs.Runs.{part}
@@ -34,7 +38,8 @@ use Rattle.names.specs.Look.{value_of, second_of, width_at}
 use Rattle.decls.specs.declared.At.{At}
 use Rattle.decls.specs.declared.Started.{Started}
 use Rattle.decls.specs.declared.Named.{Named}
-use Rattle.decls.specs.Left.{Several, list_of, Listed, More, Names, Proceeds, LeftBy, Left}
+use Rattle.decls.specs.declared.Turn.{Turn}
+use Rattle.decls.specs.Left.{Several, list_of, list_number, Listed, More, Names, Proceeds, LeftBy, Left}
 use Rattle.decls.specs.Came.{Is, Ended, BooleanStarted, IntegerStarted, NamedOne, NamedCame, Quiet, Reached, After, Opened, Stepped, StepCame, Ready, Begun, BeginCame}
 use Rattle.decls.proofs.Again.{along_place}
 use Rattle.decls.proofs.Quiet.{procedure-whole}
@@ -241,17 +246,17 @@ module _ {s : List ℕ} {h : Here} {w : Word} (n : Near s h) (st : Same s h w) (
   inside : w.place < 8192
   inside = omega (arith, st.place, n.more st.known, n.inside, n.short)
 
-  is_input : (e : declared.Ending) → Is s (inputs (name_at w) e) (record { kind = 0; place = h.place; next = h.next; number = 0; width = 0; value = 0 })
+  is_input : (e : declared.Ending) → Is s (inputs (name_at w) e) (record { kind = kinds.Input; place = h.place; next = h.next; number = 0; width = 0; value = 0 })
   is_input e = record { lies = record { bytes = lies-bytes; short = short; inside = inside; number = omega arith; width = tt }; kind = refl; place = st.place; next = end_is; number = refl; width = refl; value = refl }
 
-  is_output : (e : declared.Ending) (b : Bool) (v : ℕ) → v ≡ as_bit b → Is s (outputs (name_at w) e b) (record { kind = 1; place = h.place; next = h.next; number = 0; width = 1; value = v })
+  is_output : (e : declared.Ending) (b : Bool) (v : ℕ) → v ≡ as_bit b → Is s (outputs (name_at w) e b) (record { kind = kinds.Output; place = h.place; next = h.next; number = 0; width = 1; value = v })
   is_output e b v q = record { lies = record { bytes = lies-bytes; short = short; inside = inside; number = omega arith; width = tt }; kind = refl; place = st.place; next = end_is; number = refl; width = refl; value = q }
 
-  is_internal : (e : declared.Ending) (b : Bool) (v : ℕ) → v ≡ as_bit b → Is s (internals (name_at w) e b) (record { kind = 2; place = h.place; next = h.next; number = 0; width = 1; value = v })
+  is_internal : (e : declared.Ending) (b : Bool) (v : ℕ) → v ≡ as_bit b → Is s (internals (name_at w) e b) (record { kind = kinds.Internal; place = h.place; next = h.next; number = 0; width = 1; value = v })
   is_internal e b v q = record { lies = record { bytes = lies-bytes; short = short; inside = inside; number = omega arith; width = tt }; kind = refl; place = st.place; next = end_is; number = refl; width = refl; value = q }
 
   is_integer : (p q v i x : ℕ) → q ≡ p → q ≤ 8192 → width_at s h.next ≡ v → x ≡ v
-      → (j : ℕ) → j ≡ i → Is s (integers (name_at w) p v i) (record { kind = 3; place = h.place; next = h.next; number = q; width = x; value = j })
+      → (j : ℕ) → j ≡ i → Is s (integers (name_at w) p v i) (record { kind = kinds.Integer; place = h.place; next = h.next; number = q; width = x; value = j })
   is_integer p q v i x e r f g j z = record { lies = record { bytes = lies-bytes; short = short; inside = inside; number = omega (arith, e, r); width = rw (← end_is) f }; kind = refl; place = st.place; next = end_is; number = e; width = g; value = z }
 
 -- the width that is written behind a name
@@ -261,45 +266,44 @@ width-behind s from o m tail k (a, (b, c)) = rw (a, b, k) refl
 
 module _ {s : List ℕ} {h after : Here} (n : Near s h) (b : Begins s h.next after) where
   module _ {e : Here} (d : Ended s after e) where
-    pub named-input : NamedCame s 1 h (record { item = record { kind = 0; place = h.place; next = h.next; number = 0; width = 0; value = 0 }; word = e })
+    pub named-input : NamedCame s 1 h (record { item = record { kind = kinds.Input; place = h.place; next = h.next; number = 0; width = 0; value = 0 }; word = e })
     named-input = record { near = d.near; later = omega (arith, b.later, d.later); kind = omega arith; place = refl; next = refl; told = told }
       where
         told : (ws : Text) → Stands s h ws → (f k : ℕ) (ds : Declared) (rest : Text) → Listed 1 f k ws ds rest
-            → NamedOne s 1 k ds rest (record { item = record { kind = 0; place = h.place; next = h.next; number = 0; width = 0; value = 0 }; word = e })
+            → NamedOne s 1 k ds rest (record { item = record { kind = kinds.Input; place = h.place; next = h.next; number = 0; width = 0; value = 0 }; word = e })
         told ws st f k ds rest x =
             let (g, i, p, row) = inputs-told f k ws ds rest x in let (w, tail, mid, z, es, a, q, y, u, v) = row in
             let t : Stands s h (w ∷ tail) = subst (Stands s h) a st in
             record { one = inputs (name_at w) z; on = es; mid = mid; fuel = g; all = v; is = is_input n t.0 q z; stands = d.told tail (b.stands tail t.1) g k z mid y; more = u }
 
     module _ {r : Started} (c : BooleanStarted s e r) where
-      abbrev BooleanName : ℕ → Named
-      BooleanName l = record { item = record { kind = l - 1; place = h.place; next = h.next; number = 0; width = 1; value = r.value }; word = r.word }
+      abbrev BooleanName : Kind → Named
+      BooleanName l = record { item = record { kind = l; place = h.place; next = h.next; number = 0; width = 1; value = r.value }; word = r.word }
 
-      told-boolean : (l : ℕ) → ¬ (l ≡ 1) → ¬ (l ≡ 4) → (ws : Text) → Stands s h ws → (f k : ℕ) (ds : Declared) (rest : Text) → Listed l f k ws ds rest → NamedOne s l k ds rest (BooleanName l)
-      told-boolean zero g j ws st f k ds rest x = absurd x
-      told-boolean (suc zero) g j ws st f k ds rest x = absurd (g refl)
-      told-boolean (suc (suc zero)) g₀ j₀ ws st f k ds rest (m, x, made) =
+      told-boolean : (l : Kind) → 1 ≤ kind_number l → kind_number l ≤ 2 → (ws : Text) → Stands s h ws → (f k : ℕ) (ds : Declared) (rest : Text) → Listed (list_number (Some l)) f k ws ds rest → NamedOne s (list_number (Some l)) k ds rest (BooleanName l)
+      told-boolean kinds.Input g₀ j₀ ws st f k ds rest x = absurd (omega (arith, g₀))
+      told-boolean kinds.Output g₀ j₀ ws st f k ds rest (m, x, made) =
           let (g, i, p, row) = booleans_told f k ws m rest x in let (w, tail, mid, low, z, v, es, a, q, y, u, l, made₁) = row in
           let t : Stands s h (w ∷ tail) = subst (Stands s h) a st in
           let (o, value) = c.told mid (d.told tail (b.stands tail t.1) g k z mid y) g k v low u in
           record { one = outputs (name_at w) z v; on = es outputs; mid = low; fuel = g; all = made ∙ ap (λ (x : Maker → Declared). x outputs) made₁; is = is_output n t.0 q z v r.value value; stands = o; more = (es, l, refl) }
-      told-boolean (suc (suc (suc zero))) g₀ j₀ ws st f k ds rest (m, x, made) =
+      told-boolean kinds.Internal g₀ j₀ ws st f k ds rest (m, x, made) =
           let (g, i, p, row) = booleans_told f k ws m rest x in let (w, tail, mid, low, z, v, es, a, q, y, u, l, made₁) = row in
           let t : Stands s h (w ∷ tail) = subst (Stands s h) a st in
           let (o, value) = c.told mid (d.told tail (b.stands tail t.1) g k z mid y) g k v low u in
           record { one = internals (name_at w) z v; on = es internals; mid = low; fuel = g; all = made ∙ ap (λ (x : Maker → Declared). x internals) made₁; is = is_internal n t.0 q z v r.value value; stands = o; more = (es, l, refl) }
-      told-boolean (suc (suc (suc (suc zero)))) g j ws st f k ds rest x = absurd (j refl)
-      told-boolean (suc (suc (suc (suc (suc l))))) g j ws st f k ds rest x = absurd x
+      told-boolean kinds.Integer g₀ j₀ ws st f k ds rest x = absurd (omega (arith, j₀))
+      told-boolean kinds.Procedure g₀ j₀ ws st f k ds rest x = absurd (omega (arith, j₀))
 
-      pub named-boolean : {l : ℕ} → ¬ (l ≡ 1) → ¬ (l ≡ 4) → l ≤ 4 → NamedCame s l h (BooleanName l)
-      named-boolean {l} g j m = record { near = c.near; later = omega (arith, b.later, d.later, c.later); kind = omega arith; place = refl; next = refl; told = told-boolean l g j }
+      pub named-boolean : {l : Kind} → 1 ≤ kind_number l → kind_number l ≤ 2 → NamedCame s (list_number (Some l)) h (BooleanName l)
+      named-boolean {l} g j = record { near = c.near; later = omega (arith, b.later, d.later, c.later); kind = omega (arith, j); place = refl; next = refl; told = told-boolean l g j }
 
   module _ {m close low : Here} {r : Started} (bm : Begins s after.next m) (bc : Begins s m.next close) (bl : Begins s close.next low) (c : IntegerStarted s low r) where
-    pub named-integer : NamedCame s 4 h (record { item = record { kind = 3; place = h.place; next = h.next; number = m.place; width = m.value; value = r.value }; word = r.word })
+    pub named-integer : NamedCame s 4 h (record { item = record { kind = kinds.Integer; place = h.place; next = h.next; number = m.place; width = m.value; value = r.value }; word = r.word })
     named-integer = record { near = c.near; later = omega (arith, b.later, begins-later b.near bm, begins-later bm.near bc, begins-later bc.near bl, c.later); kind = omega arith; place = refl; next = refl; told = told }
       where
         told : (ws : Text) → Stands s h ws → (f k : ℕ) (ds : Declared) (rest : Text) → Listed 4 f k ws ds rest
-            → NamedOne s 4 k ds rest (record { item = record { kind = 3; place = h.place; next = h.next; number = m.place; width = m.value; value = r.value }; word = r.word })
+            → NamedOne s 4 k ds rest (record { item = record { kind = kinds.Integer; place = h.place; next = h.next; number = m.place; width = m.value; value = r.value }; word = r.word })
         told ws st f k ds rest x =
             let (g, i, p, row) = integers-told f k ws ds rest x in let (w, o, u, cl, tail, mid, v, es, a, q, nk, y, l, all) = row in
             let t : Stands s h (w ∷ o ∷ u ∷ cl ∷ tail) = subst (Stands s h) a st in
@@ -319,28 +323,35 @@ module _ {s : List ℕ} {h after : Here} (n : Near s h) (b : Begins s h.next aft
               more = l;
             }
 
+-- ---- the number of a list
+
+pub list-most : (l : Kind) → list_number (Some l) ≤ 5
+list-most kinds.Input = omega arith
+list-most kinds.Output = omega arith
+list-most kinds.Internal = omega arith
+list-most kinds.Integer = omega arith
+list-most kinds.Procedure = omega arith
+
+pub some-list : {o : Optional Kind} {l : Kind} → o ≡ Some l → 1 ≤ list_number o
+some-list e = omega (arith, ap list_number e)
+
 -- ---- behind a `;`
 
 abbrev picked : Bool → Bool → Bool → Bool → Bool → ℕ
 picked a b c d e = cond a 1 (cond b 2 (cond c 3 (cond d 4 (cond e 5 0))))
 
-list-test : (k : ℕ) → (list_of k ≤ 5) × (¬ (list_of k ≡ 0) → k < kind_count)
+-- a word that opens a list is one of the words
+list-known : (k : ℕ) → 1 ≤ list_of k → k < kind_count
 unfolding list_of
-list-test k = go (eqb k 28) (eqb k 29) (eqb k 30) (eqb k 31) (eqb k 56) refl refl refl refl refl
+list-known k = go (eqb k 28) (eqb k 29) (eqb k 30) (eqb k 31) (eqb k 56) refl refl refl refl refl
   where
-    go : (a b c d i : Bool) → eqb k 28 ≡ a → eqb k 29 ≡ b → eqb k 30 ≡ c → eqb k 31 ≡ d → eqb k 56 ≡ i → (picked a b c d i ≤ 5) × (¬ (picked a b c d i ≡ 0) → k < kind_count)
-    go true b c d i e f g h j = (omega arith, λ z. omega (arith, eqb-true k 28 e))
-    go false true c d i e f g h j = (omega arith, λ z. omega (arith, eqb-true k 29 f))
-    go false false true d i e f g h j = (omega arith, λ z. omega (arith, eqb-true k 30 g))
-    go false false false true i e f g h j = (omega arith, λ z. omega (arith, eqb-true k 31 h))
-    go false false false false true e f g h j = (omega arith, λ z. omega (arith, eqb-true k 56 j))
-    go false false false false false e f g h j = (omega arith, λ z. absurd (z refl))
-
-pub list-low : (k : ℕ) {l : ℕ} → l ≡ list_of k → l ≤ 5
-list-low k e = omega (arith, e, (list-test k).0)
-
-pub list-known : (k : ℕ) {l : ℕ} → l ≡ list_of k → ¬ (l ≡ 0) → k < kind_count
-list-known k e z = (list-test k).1 (λ q. z (e ∙ q))
+    go : (a b c d i : Bool) → eqb k 28 ≡ a → eqb k 29 ≡ b → eqb k 30 ≡ c → eqb k 31 ≡ d → eqb k 56 ≡ i → 1 ≤ picked a b c d i → k < kind_count
+    go true b c d i e f g h j z = omega (arith, eqb-true k 28 e)
+    go false true c d i e f g h j z = omega (arith, eqb-true k 29 f)
+    go false false true d i e f g h j z = omega (arith, eqb-true k 30 g)
+    go false false false true i e f g h j z = omega (arith, eqb-true k 31 h)
+    go false false false false true e f g h j z = omega (arith, eqb-true k 56 j)
+    go false false false false false e f g h j z = absurd (omega (arith, z))
 
 names-left : (s : List ℕ) (l : ℕ) (h : Here) (ds : Several) (rest : Text) → 1 ≤ l → l ≤ 4 → LeftBy s l h ds rest → Names s l h ds rest
 names-left s zero h ds rest g m x = absurd (omega arith)
@@ -365,12 +376,12 @@ listed_by (suc (suc zero)) f k ws ds rest (w, tail, g, a, x, e) = (w, tail, a, (
 listed_by (suc (suc (suc zero))) f k ws ds rest (w, tail, a, x) = (w, tail, a, x)
 listed_by (suc (suc (suc (suc j)))) f k ws ds rest x = absurd x
 
-module _ {s : List ℕ} {h : Here} (n : Near s h) {l : ℕ} (e : l ≡ list_of h.kind) where
-  pub opened-none : l ≡ 0 → Opened s h (record { list = 0; word = h })
-  opened-none z = record { near = n; list = omega arith; from = omega arith; later = λ g. absurd (omega arith); told = told }
+module _ {s : List ℕ} {h : Here} (n : Near s h) where
+  pub opened-none : 0 ≡ list_of h.kind → Opened s h (record { list = None; word = h })
+  opened-none z = record { near = n; list = omega arith; from = omega arith; later = λ g. absurd (omega (arith, g)); told = told }
     where
       zero_row : lists_row h.kind ≡ 0
-      zero_row = let q : list_of h.kind ≡ 0 = sym e ∙ z in rw q refl
+      zero_row = rw (← z) refl
 
       told : (ws : Text) → Stands s h ws → (f k : ℕ) → k ≤ most_levels → (ds : Several) (rest : Text) → Told f Declarations k ws ds rest → (ds ≡ []) × Stands s h rest
       told ws st f k few ds rest x =
@@ -379,11 +390,14 @@ module _ {s : List ℕ} {h : Here} (n : Near s h) {l : ℕ} (e : l ≡ list_of h
           let (a, u) = subst (DeclarationsRow g k ws ds rest) q row in
           (a, subst (Stands s h) u st)
 
-  pub opened-list : {v : Here} → ¬ (l ≡ 0) → l ≤ 5 → h.kind < kind_count → Begins s h.next v → Opened s h (record { list = l; word = v })
-  opened-list {v} z m known b = record { near = b.near; list = m; from = begins-later n b; later = λ g. omega (arith, n.more known, b.later); told = told }
+  pub opened-list : {l : Kind} {v : Here} → list_number (Some l) ≡ list_of h.kind → Begins s h.next v → Opened s h (record { list = Some l; word = v })
+  opened-list {l} {v} e b = record { near = b.near; list = m; from = begins-later n b; later = λ g. omega (arith, n.more (list-known h.kind (omega (arith, e))), b.later); told = told }
     where
+      m : list_number (Some l) ≤ 5
+      m = list-most l
+
       some : ¬ (list_of h.kind ≡ 0)
-      some q = z (e ∙ q)
+      some q = omega (arith, e, q)
 
       list-row : eqb (list_of h.kind) 5 ≡ false → lists_row h.kind ≡ 1
       list-row q = rw (ne_eqb (list_of h.kind) 0 some, q) refl
@@ -391,18 +405,18 @@ module _ {s : List ℕ} {h : Here} (n : Near s h) {l : ℕ} (e : l ≡ list_of h
       procedure-row : eqb (list_of h.kind) 5 ≡ true → lists_row h.kind ≡ 2
       procedure-row q = rw (ne_eqb (list_of h.kind) 0 some, q) refl
 
-      proceeds : (ds : Several) (rest : Text) → l ≡ 5 → Proceeds s v ds rest → LeftBy s l v ds rest
+      proceeds : (ds : Several) (rest : Text) → list_number (Some l) ≡ 5 → Proceeds s v ds rest → LeftBy s (list_number (Some l)) v ds rest
       proceeds ds rest q x = rw q x
 
-      named : (j : ℕ) → l ≡ suc j → l ≤ 4 → (ds : Several) (rest : Text) → Names s (suc j) v ds rest → LeftBy s l v ds rest
-      named j q r ds rest x = left-names s l v ds rest (omega (arith, q)) r (rw q x)
+      named : (j : ℕ) → list_number (Some l) ≡ suc j → list_number (Some l) ≤ 4 → (ds : Several) (rest : Text) → Names s (suc j) v ds rest → LeftBy s (list_number (Some l)) v ds rest
+      named j q r ds rest x = left-names s (list_number (Some l)) v ds rest (omega (arith, q)) r (rw q x)
 
-      told : (ws : Text) → Stands s h ws → (f k : ℕ) → k ≤ most_levels → (ds : Several) (rest : Text) → Told f Declarations k ws ds rest → LeftBy s l v ds rest
+      told : (ws : Text) → Stands s h ws → (f k : ℕ) → k ≤ most_levels → (ds : Several) (rest : Text) → Told f Declarations k ws ds rest → LeftBy s (list_number (Some l)) v ds rest
       told ws st f k few ds rest x =
           let (g, i, p, row) = declarations_told f k ws ds rest x in
           go g i (called-row s Declarations lists_row all-lists h ws i st p) row (eqb (list_of h.kind) 5) refl
         where
-          go : (g i : ℕ) → lists_row h.kind ≡ i → DeclarationsRow g k ws ds rest i → (t : Bool) → eqb (list_of h.kind) 5 ≡ t → LeftBy s l v ds rest
+          go : (g i : ℕ) → lists_row h.kind ≡ i → DeclarationsRow g k ws ds rest i → (t : Bool) → eqb (list_of h.kind) 5 ≡ t → LeftBy s (list_number (Some l)) v ds rest
           go g i p row true t =
               let (w, tail, mid, low, here, others, a, y, af, u, all) = subst (DeclarationsRow g k ws ds rest) (sym p ∙ procedure-row t) row in
               let al : Along s h.next tail = on_words s h st a in
@@ -413,7 +427,7 @@ module _ {s : List ℕ} {h : Here} (n : Near s h) {l : ℕ} (e : l ≡ list_of h
               let (g₁, j, p₁, row₁) = declaration_told g k ws here (c ∷ mid) y in
               let q₁ : list_of h.kind - 1 ≡ j = called-row s grammar.Declaration list_row all_list h ws j st p₁ in
               let (w, tail, a, x₁) = listed_by j g₁ k ws here (c ∷ mid) row₁ in
-              named j (omega (arith, e, q₁, z)) (omega (arith, m, e, eqb-false (list_of h.kind) 5 t)) ds rest (record { fuel = g₁; levels = k; few = few; words = tail; close = c; mid = mid; here = here; on = others; stands = on h b st a; listed = x₁; others = (g, u); all = all })
+              named j (omega (arith, e, q₁)) (omega (arith, m, e, eqb-false (list_of h.kind) 5 t)) ds rest (record { fuel = g₁; levels = k; few = few; words = tail; close = c; mid = mid; here = here; on = others; stands = on h b st a; listed = x₁; others = (g, u); all = all })
 
 -- ---- what follows a name
 
@@ -469,7 +483,7 @@ module _ (s : List ℕ) (h : Here) where
 
 -- ---- one name after the other
 
-module _ {s : List ℕ} {a : At} (ready : Ready s a) (some : 1 ≤ a.list) (low : a.list ≤ 4) (known : a.word.kind ≡ 0) {r : Named} (c : NamedCame s a.list a.word r) {v : Here} (b : Begins s r.word.next v) where
+module _ {s : List ℕ} {a : At} (ready : Ready s a) (some : 1 ≤ list_number a.list) (low : list_number a.list ≤ 4) (known : a.word.kind ≡ 0) {r : Named} (c : NamedCame s (list_number a.list) a.word r) {v : Here} (b : Begins s r.word.next v) where
   name_on : a.word.place < a.word.next
   name_on = ready.near.more (omega (arith, known))
 
@@ -482,15 +496,15 @@ module _ {s : List ℕ} {a : At} (ready : Ready s a) (some : 1 ≤ a.list) (low 
 
       told : (ds : Several) (rest : Text) → Left s a ds rest → Stepped s a ds rest (record { item = r.item; at = record { list = a.list; word = v } })
       told ds rest x =
-          let y = names-left s a.list a.word ds rest some low x in
+          let y = names-left s (list_number a.list) a.word ds rest some low x in
           let z = c.told y.words y.stands y.fuel y.levels y.here (y.close ∷ y.mid) y.listed in
-          let (g, w, tail, q, l) = more-row s r.word a.list z.fuel y.levels z.mid z.on (y.close ∷ y.mid) z.stands e z.more in
+          let (g, w, tail, q, l) = more-row s r.word (list_number a.list) z.fuel y.levels z.mid z.on (y.close ∷ y.mid) z.stands e z.more in
           record {
             one = a_variable z.one;
             on = map a_variable z.on ++ y.on;
             all = y.all ∙ ap (λ (d : Declared). map a_variable d ++ y.on) z.all;
             is = z.is;
-            left = left-names s a.list v (map a_variable z.on ++ y.on) rest some low (record { fuel = g; levels = y.levels; few = y.few; words = tail; close = y.close; mid = y.mid; here = z.on; on = y.on; stands = on r.word b z.stands q; listed = l; others = y.others; all = refl });
+            left = left-names s (list_number a.list) v (map a_variable z.on ++ y.on) rest some low (record { fuel = g; levels = y.levels; few = y.few; words = tail; close = y.close; mid = y.mid; here = z.on; on = y.on; stands = on r.word b z.stands q; listed = l; others = y.others; all = refl });
             far = omega (arith, two);
           }
 
@@ -500,9 +514,9 @@ module _ {s : List ℕ} {a : At} (ready : Ready s a) (some : 1 ≤ a.list) (low 
     where
       told : (ds : Several) (rest : Text) → Left s a ds rest → Stepped s a ds rest (record { item = r.item; at = at })
       told ds rest x =
-          let y = names-left s a.list a.word ds rest some low x in
+          let y = names-left s (list_number a.list) a.word ds rest some low x in
           let z = c.told y.words y.stands y.fuel y.levels y.here (y.close ∷ y.mid) y.listed in
-          let (p, q) = more-ends s r.word a.list z.fuel y.levels z.mid z.on (y.close ∷ y.mid) z.stands e z.more in
+          let (p, q) = more-ends s r.word (list_number a.list) z.fuel y.levels z.mid z.on (y.close ∷ y.mid) z.stands e z.more in
           let h : y.here ≡ z.one ∷ [] = z.all ∙ ap (λ (d : Declared). z.one ∷ d) p in
           let st : Stands s r.word (y.close ∷ y.mid) = subst (Stands s r.word) q z.stands in
           record {
@@ -513,6 +527,10 @@ module _ {s : List ℕ} {a : At} (ready : Ready s a) (some : 1 ≤ a.list) (low 
             left = o.told y.mid (on r.word b z.stands q) y.others.0 y.levels y.few y.on rest y.others.1;
             far = omega (arith, name_on, c.later, c.near.more st.0.known, b.later, o.from);
           }
+
+-- .. from a list that a match has
+pub from-list : {s : List ℕ} {a : At} {l : Kind} {t : Turn} → a.list ≡ Some l → StepCame s (record { list = Some l; word = a.word }) t → StepCame s a t
+from-list {s} {a} {t = t} e c = subst (λ (o : Optional Kind). StepCame s (record { list = o; word = a.word }) t) (sym e) c
 
 -- ---- a procedure is passed over
 
@@ -596,12 +614,12 @@ module _ {s : List ℕ} {h₀ h : Here} (g : Reaching s h₀ h) where
 proceeds_left : (s : List ℕ) (l : ℕ) (h : Here) (ds : Several) (rest : Text) → l ≡ 5 → LeftBy s l h ds rest → Proceeds s h ds rest
 proceeds_left s l h ds rest e x = rw e at x
 
-module _ {s : List ℕ} {a : At} (ready : Ready s a) (five : a.list ≡ 5) (known : a.word.kind ≡ 0) {v e w u : Here} {r : At} (bv : Begins s a.word.next v) (re : Reached s v e) (bw : Begins s e.next w) (af : After s w u) (o : Opened s u r) where
+module _ {s : List ℕ} {a : At} (ready : Ready s a) (five : list_number a.list ≡ 5) (known : a.word.kind ≡ 0) {v e w u : Here} {r : At} (bv : Begins s a.word.next v) (re : Reached s v e) (bw : Begins s e.next w) (af : After s w u) (o : Opened s u r) where
   abbrev here : Here
   here = a.word
 
   abbrev procedure_item : Item
-  procedure_item = record { kind = 4; place = here.place; next = here.next; number = 0; width = 0; value = 0 }
+  procedure_item = record { kind = kinds.Procedure; place = here.place; next = here.next; number = 0; width = 0; value = 0 }
 
   some_on : here.place < here.next
   some_on = ready.near.more (omega (arith, known))
@@ -615,7 +633,7 @@ module _ {s : List ℕ} {a : At} (ready : Ready s a) (five : a.list ≡ 5) (know
     where
       told : (ds : Several) (rest : Text) → Left s a ds rest → Stepped s a ds rest (record { item = procedure_item; at = r })
       told ds rest x =
-          let y = proceeds_left s a.list here ds rest five x in
+          let y = proceeds_left s (list_number a.list) here ds rest five x in
           let z = procedure-whole y.fuel y.levels y.words y.here y.mid y.procedure in
           let tail = z.pre ++ (z.close ∷ y.mid) in
           let st : Stands s here (z.first ∷ tail) = subst (Stands s here) z.all y.stands in
@@ -671,19 +689,19 @@ listed-name (suc (suc (suc zero))) f k ws ds rest (m, x, e) = let (g, i, p, row)
 listed-name (suc (suc (suc (suc zero)))) f k ws ds rest x = let (g, i, p, row) = integers-told f k ws ds rest x in let (w, o, u, cl, tail, mid, v, es, a, q, nk, y, l, all) = row in (w, o ∷ u ∷ cl ∷ tail, a, q)
 listed-name (suc (suc (suc (suc (suc l))))) f k ws ds rest x = absurd x
 
-pub left-name : (s : List ℕ) (a : At) (ds : Several) (rest : Text) → 1 ≤ a.list → a.list ≤ 5 → Left s a ds rest → a.word.kind ≡ 0
+pub left-name : (s : List ℕ) (a : At) (ds : Several) (rest : Text) → 1 ≤ list_number a.list → list_number a.list ≤ 5 → Left s a ds rest → a.word.kind ≡ 0
 unfolding numbered
-left-name s a ds rest some most x = go (dec_lt a.list 5)
+left-name s a ds rest some most x = go (dec_lt (list_number a.list) 5)
   where
     named : (w : Word) (tail : Text) → Stands s a.word (w ∷ tail) → w.kind ≡ name → a.word.kind ≡ 0
     named w tail t q = sym (number-back a.word.kind t.0.known) ∙ ap number_of (t.0.kind ∙ q) ∙ number-back 0 (omega arith)
 
-    go : Dec (a.list < 5) → a.word.kind ≡ 0
+    go : Dec (list_number a.list < 5) → a.word.kind ≡ 0
     go (yes l) =
-        let y = names-left s a.list a.word ds rest some (omega (arith, l)) x in
-        let (w, tail, e, q) = listed-name a.list y.fuel y.levels y.words y.here (y.close ∷ y.mid) y.listed in
+        let y = names-left s (list_number a.list) a.word ds rest some (omega (arith, l)) x in
+        let (w, tail, e, q) = listed-name (list_number a.list) y.fuel y.levels y.words y.here (y.close ∷ y.mid) y.listed in
         named w tail (subst (Stands s a.word) e y.stands) q
     go (no l) =
-        let y = proceeds_left s a.list a.word ds rest (omega (arith, l, most)) x in
+        let y = proceeds_left s (list_number a.list) a.word ds rest (omega (arith, l, most)) x in
         let z = procedure-whole y.fuel y.levels y.words y.here y.mid y.procedure in
         named z.first (z.pre ++ (z.close ∷ y.mid)) (subst (Stands s a.word) z.all y.stands) z.named

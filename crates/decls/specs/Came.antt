@@ -27,8 +27,8 @@ use Rattle.decls.specs.declared.Turn.{Turn}
 use Rattle.names.specs.declared.Marks.{Marks}
 use Rattle.decls.specs.declared.Read.{Read}
 use Rattle.names.specs.Look.{width_at}
-use Rattle.names.specs.Enter.{cap, tag_of, width_place, start_of, start_marks}
-use Rattle.decls.specs.Left.{Several, Listed, More, Left}
+use Rattle.names.specs.Enter.{kind_number, cap, tag_of, width_place, start_of, start_marks}
+use Rattle.decls.specs.Left.{Several, list_number, Listed, More, Left}
 use Rattle.decls.specs.Held.{known_in, formals_noted, Held, enter_variable, enter_procedure, enter_each, asked_by, asked}
 
 abbrev Text : Type 0
@@ -73,7 +73,7 @@ EachLies s (d ∷ ds) = LiesOne s d × EachLies s ds
 -- what was read is this declaration
 pub record Is (s : List ℕ) (d : Declaration) (i : Item) : Type 0 where
   pub lies : Lies s d
-  pub kind : i.kind ≡ tag_of d
+  pub kind : kind_number i.kind ≡ tag_of d
   pub place : i.place ≡ (name_of d).place
   pub next : i.next ≡ (name_of d).place + length (name_of d).bytes
   pub number : i.number ≡ width_place d
@@ -83,7 +83,7 @@ pub record Is (s : List ℕ) (d : Declaration) (i : Item) : Type 0 where
 -- .. this procedure, with its formals behind its name
 pub record IsProcedure (s : List ℕ) (p : unexpanded.Procedure) (i : Item) : Type 0 where
   pub lasts : Lasts s p
-  pub kind : i.kind ≡ 4
+  pub kind : kind_number i.kind ≡ 4
   pub place : i.place ≡ p.name.place
   pub next : i.next ≡ p.name.place + length p.name.bytes
   pub formals : (f : ℕ) × (k : ℕ) × (ws : Text) × (rest : Text) × Along s i.next ws × Told f Formals k ws p.formals rest
@@ -125,7 +125,7 @@ pub record NamedOne (s : List ℕ) (l : ℕ) (k : ℕ) (ds : Declared) (rest : T
 pub record NamedCame (s : List ℕ) (l : ℕ) (h : Here) (r : Named) : Type 0 where
   pub near : Near s r.word
   pub later : h.next ≤ r.word.place
-  pub kind : r.item.kind < 4
+  pub kind : kind_number r.item.kind < 4
   pub place : r.item.place ≡ h.place
   pub next : r.item.next ≡ h.next
   pub told : (ws : Text) → Stands s h ws → (f k : ℕ) (ds : Declared) (rest : Text) → Listed l f k ws ds rest → NamedOne s l k ds rest r
@@ -150,9 +150,9 @@ pub record After (s : List ℕ) (h : Here) (r : Here) : Type 0 where
 -- behind a `;`
 pub record Opened (s : List ℕ) (h : Here) (r : At) : Type 0 where
   pub near : Near s r.word
-  pub list : r.list ≤ 5
+  pub list : list_number r.list ≤ 5
   pub from : h.place ≤ r.word.place
-  pub later : 1 ≤ r.list → h.place < r.word.place
+  pub later : 1 ≤ list_number r.list → h.place < r.word.place
   pub told : (ws : Text) → Stands s h ws → (f k : ℕ) → k ≤ most_levels → (ds : Several) (rest : Text) → Told f Declarations k ws ds rest → Left s r ds rest
 
 -- one declared name or procedure more was read, and twice the bytes behind it are as many as it asks for
@@ -167,10 +167,10 @@ pub record Stepped (s : List ℕ) (a : At) (ds : Several) (rest : Text) (r : Tur
 -- a step, whatever is left
 pub record StepCame (s : List ℕ) (a : At) (r : Turn) : Type 0 where
   pub near : Near s r.at.word
-  pub list : r.at.list ≤ 5
+  pub list : list_number r.at.list ≤ 5
   pub on : a.word.place < r.at.word.place
-  pub later : 1 ≤ r.at.list → a.word.place + 2 ≤ r.at.word.place
-  pub kind : r.item.kind ≤ 4
+  pub later : 1 ≤ list_number r.at.list → a.word.place + 2 ≤ r.at.word.place
+  pub kind : kind_number r.item.kind ≤ 4
   pub place : r.item.place ≡ a.word.place
   pub next : r.item.next ≡ a.word.next
   pub told : (ds : Several) (rest : Text) → Left s a ds rest → Stepped s a ds rest r
@@ -178,7 +178,7 @@ pub record StepCame (s : List ℕ) (a : At) (r : Turn) : Type 0 where
 -- at a declared name, or behind the declarations
 pub record Ready (s : List ℕ) (a : At) : Type 0 where
   pub near : Near s a.word
-  pub list : a.list ≤ 5
+  pub list : list_number a.list ≤ 5
 
 -- the first declared name of a program, or the first word behind its declarations
 pub record Begun (s : List ℕ) (k : ℕ) (p : Unexpanded) (rest : Text) (r : At) : Type 0 where

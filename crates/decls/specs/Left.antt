@@ -1,6 +1,6 @@
 -- What is left to be read of the declarations, from a word in hand on.
 -- Assumes nothing.
-use Rattle.std.specs.Prelude.{cond, ◌≡◌, List, [], ◌∷◌, ◌++◌, map, ℕ, zero, suc, ◌≤◌, eqb}
+use Rattle.std.specs.Prelude.{cond, ◌≡◌, List, [], ◌∷◌, ◌++◌, map, ℕ, zero, suc, ◌≤◌, eqb, Option as Optional, Some, None}
 use Rattle.meaning.specs.Declared.{outputs, internals}
 use Rattle.meaning.specs.Unexpanded as unexpanded
 use Rattle.meaning.specs.Unexpanded.{DeclaredName, a_variable, a_procedure}
@@ -11,6 +11,8 @@ use Rattle.descent_law.specs.Declarations.{Declared, Maker}
 use Rattle.hand.specs.declared.Here.{Here}
 use Rattle.hand.specs.Along.{Along, Stands}
 use Rattle.decls.specs.declared.At.{At}
+use Rattle.names.specs.declared.Kind.{Kind}
+use Rattle.names.specs.Enter.{kind_number}
 
 abbrev Text : Type 0
 Text = List Word
@@ -18,6 +20,11 @@ Text = List Word
 -- the list that a declaration's first word opens, by the number of its kind: 5 a procedure, 0 where it opens none
 unfoldable pub list_of : ℕ → ℕ
 list_of k = cond (eqb k 28) 1 (cond (eqb k 29) 2 (cond (eqb k 30) 3 (cond (eqb k 31) 4 (cond (eqb k 56) 5 0))))
+
+-- the number of a list in code, by the kind of its names; 0 with none
+abbrev pub list_number : Optional Kind → ℕ
+list_number None = 0
+list_number (Some kind) = suc (kind_number kind)
 
 -- booleans of one kind
 abbrev pub Made : (Maker → Declared) → Maker → Declared → Type 0
@@ -88,4 +95,4 @@ LeftBy s (suc (suc (suc (suc (suc l))))) h ds rest = Proceeds s h ds rest
 
 -- .. at a place of a reader
 abbrev pub Left : List ℕ → At → Several → Text → Type 0
-Left s a ds rest = LeftBy s a.list a.word ds rest
+Left s a ds rest = LeftBy s (list_number a.list) a.word ds rest

@@ -5,17 +5,16 @@ ghost use Rattle.std.specs.Prelude.{◌≡◌, ◌≤◌, length};
 ghost use Rattle.decls.specs.Came.{Ready, OutputsCame, EnterCame, Came};
 
 use hand::Here;
-use names::{Item, Marks, enter};
+use names::{Item, Kind, Marks, enter};
 use words::kinds;
 
 mod rows;
 mod step;
 
-// `list` stays a number: `Listed`, `More` and `LeftBy` of specs/Left, and `Opened` and `StepCame` of specs/Came, go by it.
-// Where a reader of declarations is: 0 behind them, else at a declared name of 1 inputs, 2 outputs, 3 internals, 4 integers, 5 at a procedure's.
+// Where a reader of declarations is: at a name of a list of one kind, or with no list behind them.
 #[derive(Clone, Copy)]
 pub struct At {
-    pub list: u8,
+    pub list: Option<Kind>,
     pub word: Here,
 }
 
@@ -56,11 +55,14 @@ fn outputs(s: &[u8], first: At) -> u8
     let mut at = first;
     let mut n: u8 = 0;
     loop {
-        if at.list == 0 || at.word.kind != kinds::NAME {
+        let Some(kind) = at.list else {
+            return n;
+        };
+        if at.word.kind != kinds::NAME {
             return n;
         }
-        let t = step::step(s, at);
-        n = enter::counted(n, t.item.kind, 1);
+        let t = step::step(s, kind, at.word);
+        n = enter::counted(n, t.item.kind, Kind::Output);
         at = t.at;
     }
 }
@@ -74,19 +76,24 @@ fn enter_all(s: &[u8], t: &mut [u8], first: At, marks: Marks) -> Read
     let mut m = marks;
     let mut n: u16 = 0;
     loop {
-        if at.list == 0 || at.word.kind != kinds::NAME {
-            return Read {
-                marks: m,
-                procedures: n,
-                word: at.word,
-            };
+        let here = Read {
+            marks: m,
+            procedures: n,
+            word: at.word,
+        };
+        let Some(kind) = at.list else {
+            return here;
+        };
+        if at.word.kind != kinds::NAME {
+            return here;
         }
-        let x = step::step(s, at);
-        if x.item.kind == 4 {
-            m = rows::procedure_in(s, t, m, n, x.item);
-            n += 1;
-        } else {
-            m = rows::variable_in(s, t, m, n, x.item);
+        let x = step::step(s, kind, at.word);
+        match x.item.kind {
+            Kind::Procedure => {
+                m = rows::procedure_in(s, t, m, n, x.item);
+                n += 1;
+            }
+            _ => m = rows::variable_in(s, t, m, n, x.item),
         }
         at = x.at;
     }

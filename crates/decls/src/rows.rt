@@ -1,6 +1,7 @@
 // Names and procedures entered: one space of names, so each is looked for among both.
 ghost use Rattle.std.specs.Prelude.{◌≡◌, ◌≤◌, ◌<◌, ◌+◌, ◌*◌, length};
 ghost use Rattle.words.specs.Runs.{part};
+ghost use Rattle.names.specs.Enter.{kind_number};
 ghost use Rattle.decls.specs.Held.{row_end, row_in, known_in, with_six};
 ghost use Rattle.decls.specs.Came.{EarlierCame, AgainCame, FormalsCame, VariableCame, ProcedureCame};
 
@@ -103,7 +104,7 @@ fn with_six(m: Marks, six: u16) -> Marks
 
 // A variable entered: no procedure before it has its name.
 pub fn variable_in(s: &[u8], t: &mut [u8], m: Marks, n: u16, i: Item) -> Marks
-    requires { (16384 ≤ length t.old) × (n ≤ 4096) × (m.names < 4096) × (i.place < 8192) × (i.kind < 4) }
+    requires { (16384 ≤ length t.old) × (n ≤ 4096) × (m.names < 4096) × (i.place < 8192) × (kind_number i.kind < 4) }
     ensures { VariableCame s.now t.old t.new m n i result }
 {
     let clash = called(s, t, n, i.place, i.next);

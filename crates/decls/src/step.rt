@@ -1,12 +1,14 @@
 // One declared name after the other.
-ghost use Rattle.std.specs.Prelude.{◌≡◌, ◌≤◌, length};
+ghost use Rattle.std.specs.Prelude.{◌≡◌, ◌≤◌, ◌<◌, length, Some};
 ghost use Rattle.hand.specs.Along.{Near};
-ghost use Rattle.decls.specs.Came.{Ended, BooleanStarted, IntegerStarted, NamedCame, Reached, After, Opened, StepCame, BeginCame, Ready};
-ghost use Rattle.decls.specs.Left.{list_of};
+ghost use Rattle.decls.specs.Came.{Ended, BooleanStarted, IntegerStarted, NamedCame, Reached, After, Opened, StepCame, BeginCame};
+ghost use Rattle.names.specs.Enter.{kind_number};
+ghost use Rattle.names.specs.declared.Kind.TheVariants as kind;
+ghost use Rattle.decls.specs.Left.{list_of, list_number};
 
 use crate::{At, Named, Started, Turn};
 use hand::{Here, word_from};
-use names::Item;
+use names::{Item, Kind};
 use words::kinds;
 
 // `.H` or `.L`, or neither.
@@ -53,10 +55,10 @@ fn integer_start(s: &[u8], h: Here) -> Started
 
 // A declared name by itself, as an input's is.
 fn bare(h: Here) -> Item
-    ensures { result ≡ record { kind = 0; place = h.place; next = h.next; number = 0; width = 0; value = 0 } }
+    ensures { result ≡ record { kind = kind.Input; place = h.place; next = h.next; number = 0; width = 0; value = 0 } }
 {
     Item {
-        kind: 0,
+        kind: Kind::Input,
         place: h.place,
         next: h.next,
         number: 0,
@@ -76,7 +78,7 @@ fn integer(s: &[u8], h: Here) -> Named
     let g = integer_start(s, word_from(s, c.next));
     Named {
         item: Item {
-            kind: 3,
+            kind: Kind::Integer,
             number: n.place,
             width: n.value,
             value: g.value,
@@ -86,25 +88,15 @@ fn integer(s: &[u8], h: Here) -> Named
     }
 }
 
-// A declared name of a list, with all that belongs to it.
-fn named(s: &[u8], list: u8, h: Here) -> Named
-    requires { Near s.now h × (1 ≤ list) × (list ≤ 4) }
-    ensures { NamedCame s.now list h result }
+// A declared boolean, an output or an internal, with its ending and its initial value.
+fn boolean(s: &[u8], kind: Kind, h: Here) -> Named
+    requires { Near s.now h × (1 ≤ kind_number kind) × (kind_number kind ≤ 2) }
+    ensures { NamedCame s.now (list_number (Some kind)) h result }
 {
-    if list == 4 {
-        return integer(s, h);
-    }
-    let e = ending(s, word_from(s, h.next));
-    if list == 1 {
-        return Named {
-            item: bare(h),
-            word: e,
-        };
-    }
-    let g = boolean_start(s, e);
+    let g = boolean_start(s, ending(s, word_from(s, h.next)));
     Named {
         item: Item {
-            kind: list - 1,
+            kind,
             width: 1,
             value: g.value,
             ..bare(h)
@@ -113,18 +105,29 @@ fn named(s: &[u8], list: u8, h: Here) -> Named
     }
 }
 
-// The list that a declaration's first word opens: 5 for a procedure, 0 where it opens none.
+// A declared input, with its ending.
+fn input(s: &[u8], h: Here) -> Named
+    requires { Near s.now h }
+    ensures { NamedCame s.now 1 h result }
+{
+    Named {
+        item: bare(h),
+        word: ending(s, word_from(s, h.next)),
+    }
+}
+
+// What a declaration's first word opens a list of.
 #[tactic(auto, unfolding(crate::specs::Left::list_of))]
-fn list_of(kind: u8) -> u8
-    ensures { result ≡ list_of kind }
+fn list_of(kind: u8) -> Option<Kind>
+    ensures { list_number result ≡ list_of kind }
 {
     match kind {
-        kinds::INPUT => 1,
-        kinds::OUTPUT => 2,
-        kinds::INTERNAL => 3,
-        kinds::INTEGER => 4,
-        kinds::PROCEDURE => 5,
-        _ => 0,
+        kinds::INPUT => Some(Kind::Input),
+        kinds::OUTPUT => Some(Kind::Output),
+        kinds::INTERNAL => Some(Kind::Internal),
+        kinds::INTEGER => Some(Kind::Integer),
+        kinds::PROCEDURE => Some(Kind::Procedure),
+        _ => None,
     }
 }
 
@@ -133,25 +136,31 @@ fn opened(s: &[u8], h: Here) -> At
     requires { Near s.now h }
     ensures { Opened s.now h result }
 {
-    let list = list_of(h.kind);
-    At {
-        list,
-        word: if list == 0 { h } else { word_from(s, h.next) },
+    match list_of(h.kind) {
+        None => At {
+            list: None,
+            word: h,
+        },
+        Some(kind) => At {
+            list: Some(kind),
+            word: word_from(s, h.next),
+        },
     }
 }
 
-// One declared variable, and where the next name is.
-fn variable(s: &[u8], at: At) -> Turn
-    requires { Ready s.now at × (1 ≤ at.list) × (at.list ≤ 4) × (at.word.kind ≡ 0) }
-    ensures { StepCame s.now at result }
+// A variable of a kind was read: where the next name is.
+fn behind(s: &[u8], kind: Kind, h: Here, n: Named) -> Turn
+    requires { Near s.now h × (kind_number kind < 4) × (h.kind ≡ 0) × NamedCame s.now (list_number (Some kind)) h n }
+    ensures { StepCame s.now (record { list = Some kind; word = h }) result }
 {
-    let h = at.word;
-    let n = named(s, at.list, h);
     let v = word_from(s, n.word.next);
     Turn {
         item: n.item,
         at: if n.word.kind == kinds::COMMA {
-            At { word: v, ..at }
+            At {
+                list: Some(kind),
+                word: v,
+            }
         } else {
             opened(s, v)
         },
@@ -185,28 +194,31 @@ fn after(s: &[u8], h: Here) -> Here
 }
 
 // A procedure's name, its body passed over, and where the next name is.
-fn procedure(s: &[u8], at: At) -> Turn
-    requires { Ready s.now at × (at.list ≡ 5) × (at.word.kind ≡ 0) }
-    ensures { StepCame s.now at result }
+fn procedure(s: &[u8], h: Here) -> Turn
+    requires { Near s.now h × (h.kind ≡ 0) }
+    ensures { StepCame s.now (record { list = Some kind.Procedure; word = h }) result }
 {
-    let h = at.word;
     let e = reached(s, word_from(s, h.next));
     let v = after(s, word_from(s, e.next));
     Turn {
-        item: Item { kind: 4, ..bare(h) },
+        item: Item {
+            kind: Kind::Procedure,
+            ..bare(h)
+        },
         at: opened(s, v),
     }
 }
 
 // One declared name, and where the next one is.
-pub fn step(s: &[u8], at: At) -> Turn
-    requires { Ready s.now at × (1 ≤ at.list) × (at.word.kind ≡ 0) }
-    ensures { StepCame s.now at result }
+pub fn step(s: &[u8], kind: Kind, h: Here) -> Turn
+    requires { Near s.now h × (h.kind ≡ 0) }
+    ensures { StepCame s.now (record { list = Some kind; word = h }) result }
 {
-    if at.list == 5 {
-        procedure(s, at)
-    } else {
-        variable(s, at)
+    match kind {
+        Kind::Input => behind(s, kind, h, input(s, h)),
+        Kind::Output | Kind::Internal => behind(s, kind, h, boolean(s, kind, h)),
+        Kind::Integer => behind(s, kind, h, integer(s, h)),
+        Kind::Procedure => procedure(s, h),
     }
 }
 

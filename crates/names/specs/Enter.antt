@@ -5,12 +5,22 @@ use Rattle.meaning.specs.Declared.{Declaration, inputs, outputs, internals, inte
 use Rattle.meaning.specs.Names.{missing}
 use Rattle.meaning.specs.Sizes.{most_bits, most_width, bits_of}
 use Rattle.file_law.specs.Table.{most_inputs, most_outputs}
+use Rattle.names.specs.declared.Kind.{Kind}
+use Rattle.names.specs.declared.Kind.TheVariants.{Input, Output, Internal, Integer, Procedure}
 use Rattle.names.specs.declared.Marks.{Marks}
 use Rattle.names.specs.Look.{look_in, put_entry}
 
 -- counts stop at the largest byte
 abbrev pub cap : ℕ → ℕ
 cap n = min n 255
+
+-- the number of a kind in code
+abbrev pub kind_number : Kind → ℕ
+kind_number Input = 0
+kind_number Output = 1
+kind_number Internal = 2
+kind_number Integer = 3
+kind_number Procedure = 4
 
 -- kinds by number
 abbrev pub tag_of : Declaration → ℕ

@@ -1,11 +1,14 @@
 -- `decls::outputs` meets its contract.
 -- Assumes nothing.
+use Rattle.decls.proofs.Laws.{some-list, from-list}
 use Rattle.decls.proofs.Loops.{count_on, count-ends, count_never}
 use Rattle.decls.proofs.outputs.Goals as goal
-use Rattle.decls.proofs.outputs.Goals.{then-at-eq0-via-then-at-eq0, then-at-eq0-via-else-at-eq0+then-at-ne-NAME}
 
 pub loop-at-preserved : goal.loop-at-preserved
-loop-at-preserved c = count_on c.loop-at.invariant c.step-t.ensures c.counted-n.ensures
+loop-at-preserved c = count_on c.loop-at.invariant (from-list c.in-Some.is c.step-t.ensures) c.counted-n.ensures
 
-pub returns-then-at-eq0 : goal.returns-then-at-eq0
-returns-then-at-eq0 c = elim c.then-at-eq0.branch [ then-at-eq0-via-then-at-eq0 w ↦ count-ends c.loop-at.invariant w.if-at-eq0.true | then-at-eq0-via-else-at-eq0+then-at-ne-NAME w ↦ count_never c.loop-at.invariant w.if-at-eq0.false w.if-at-ne-NAME.true ]
+pub returns-in_default : goal.returns-in_default
+returns-in_default c = count-ends c.loop-at.invariant c.in_default.is
+
+pub returns-then-at-ne-NAME : goal.returns-then-at-ne-NAME
+returns-then-at-ne-NAME c = count_never c.loop-at.invariant (some-list c.in-Some.is) c.if-at-ne-NAME.true
