@@ -1,10 +1,9 @@
 // The running controller: one small record, changed in place.
 #![tactic(auto)]
 
-ghost use Rattle.std.specs.Prelude.{◌≡◌};
+ghost use Rattle.std.specs.Prelude.{◌≡◌, ℕ};
 ghost use Rattle.file_law.specs.Stepping.{step_answer, start_answer, after};
-ghost use Rattle.moves.specs.Meaning.{meaning};
-ghost use Rattle.controller.specs.Record.{running, Took};
+ghost use Rattle.controller.specs.Record.{running, told, Took};
 
 use moves::Stands;
 use refusals::Refusal;
@@ -15,9 +14,9 @@ pub struct Controller {
     pub outputs: u32,
 }
 
-// The record after an answer: as it was where that is a refusal.
-pub fn moved(c: Controller, r: Result<Stands, Refusal<u32>>) -> Controller
-    ensures { running result ≡ after (meaning r) (running c) }
+// The record after an answer: as it was where that is a refusal, whatever its number and place.
+pub fn moved<E: Drop>(c: Controller, r: Result<Stands, E>) -> Controller
+    ensures { (m p : E → ℕ) → running result ≡ after (told m p r) (running c) }
 {
     match r {
         Ok(Stands { state, outputs }) => Controller { state, outputs },

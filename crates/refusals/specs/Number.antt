@@ -1,6 +1,7 @@
 -- The numbers of the refusals, and what an answer with one of them is.
 -- Assumes nothing.
-use Rattle.std.specs.Prelude.{ℕ, ◌+◌, ◌*◌, Result, Ok, Err}
+use Rattle.std.specs.Prelude.{ℕ, ◌+◌, ◌*◌, Result, Ok, Err, Option, Some, List, codes}
+use Rattle.std.specs.Fmt.{decimal, ◌++?◌}
 use Rattle.file_law.specs.Answer.{Answer, gives, refuses}
 use Rattle.refusals.specs.declared.Cause.{Cause}
 use Rattle.refusals.specs.declared.Cause.TheVariants as cause
@@ -35,3 +36,7 @@ code_of r = number_of r.cause * 4294967296 + r.place
 abbrev pub answer_of : {A B : Type 0} → (A → B) → Result A (Refusal ℕ) → Answer B
 answer_of f (Ok x) = gives (f x)
 answer_of f (Err r) = refuses (number_of r.cause) r.place
+
+-- what a refusal prints, if text is what its place prints
+abbrev pub refusal_text : {P : Type 0} → (P → Option (List ℕ)) → Refusal P → Option (List ℕ)
+refusal_text text r = Some (codes "refused ") ++? Some (decimal (number_of r.cause)) ++? Some (codes " at ") ++? text r.place

@@ -2,7 +2,7 @@
 #![tactic(auto)]
 
 ghost use Rattle.std.specs.Prelude.{◌≡◌, ◌+◌, ◌*◌};
-ghost use Rattle.refusals.specs.Number.{number_of, code_of};
+ghost use Rattle.refusals.specs.Number.{number_of, code_of, refusal_text};
 
 use std::fmt;
 
@@ -74,6 +74,8 @@ impl From<Refusal<u32>> for u64 {
 }
 
 impl<P: fmt::Display> fmt::Display for Refusal<P> {
+    ghost output = { refusal_text P.output };
+
     fn fmt<W: fmt::Write>(&self, f: &mut fmt::Formatter<W>) -> fmt::Result {
         write!(f, "refused {} at {}", self.cause.number(), self.place)
     }
