@@ -120,6 +120,7 @@ fn sizes(kind: Kind, p: u16, w: u16, q: u16, m: Marks) -> u16
 }
 
 // Entry i: the place with the kind above it, the length, and the number.
+// `kind` stays a number: a procedure's row, as `put_row` of decls/specs/Held has it, is an entry with 0 there.
 pub fn put_entry(t: &mut [u8], i: u16, p: u16, kind: u8, len: u8, number: u8)
     requires { (i * 4 + 4 ≤ length t.old) × (p < 8192) × (kind < 4) }
     ensures { t.new ≡ put_entry t.old i p kind len number }
