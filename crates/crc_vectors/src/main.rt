@@ -11,8 +11,8 @@ fn one(rt: &(impl Env + Files + Print), errors: &impl Print, n: usize) -> io::Re
     let mut path = [0u8; 4096];
     let mut file = [0u8; 4096];
     if let Some(given) = input::named(rt, errors, n, b"argument", &mut path, &mut file) {
-        let check = crc::crc(given.bytes);
-        rt.write_all(given.name)?;
+        let check = crc::crc(&file[..given.bytes]);
+        rt.write_all(&path[..given.name])?;
         println!(rt; " {check:08x}")?;
     }
     Ok(())

@@ -16,7 +16,8 @@ fn answer(to: &impl Print, bytes: &[u8]) -> io::Result<()> {
 // A source longer than the buffer is cut at 65,536 bytes, and refused with 3 as the whole would be.
 fn standard(rt: &(impl Input + Print)) -> io::Result<()> {
     let mut buffer = [0u8; 65536];
-    answer(rt, input::standard(rt, &mut buffer))
+    let got = input::standard(rt, &mut buffer);
+    answer(rt, &buffer[..got])
 }
 
 // .. and so is the file that argument n names.
@@ -24,9 +25,9 @@ fn named(rt: &(impl Env + Files + Print), errors: &impl Print, n: usize) -> io::
     let mut path = [0u8; 4096];
     let mut buffer = [0u8; 65536];
     if let Some(given) = input::named(rt, errors, n, b"argument", &mut path, &mut buffer) {
-        rt.write_all(given.name)?;
+        rt.write_all(&path[..given.name])?;
         rt.write_all(b": ")?;
-        answer(rt, given.bytes)?;
+        answer(rt, &buffer[..given.bytes])?;
     }
     Ok(())
 }

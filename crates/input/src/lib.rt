@@ -1,7 +1,8 @@
 // What a program is given to read: standard input, or the file that an argument names. Whatever is past the end of the buffer is not read.
 #![tactic(auto)]
 
-ghost use Rattle.std.specs.Prelude.{◌≤◌, length, IfSome};
+ghost use Rattle.std.specs.Prelude.{IfSome};
+ghost use Rattle.input.specs.Counts.{IsPrefixLen};
 
 use std::env::FillError;
 use std::io::{Input, Print, Read};
@@ -17,24 +18,25 @@ const NO_TEXT: i32 = 84;
 
 const TOO_LONG: i32 = 36;
 
-// A file: the name that it was given by, and those of its bytes that were read.
+// A file: how many bytes the name has that it was given by, and how many of its bytes were read. Counts, and no slices: a clause
+// says of a count that what it counts is the buffer's own start, and of a slice that is handed back out of a `&mut` only its length.
 #[derive(Drop)]
-pub struct Given<'a> {
-    pub name: &'a [u8],
-    pub bytes: &'a [u8],
+pub struct Given {
+    pub name: usize,
+    pub bytes: usize,
 }
 
-// The bytes of standard input that were read. A read that fails ends them, as the input's end does.
-pub fn standard<'a>(rt: &impl Input, buffer: &'a mut [u8]) -> &'a [u8]
-    ensures { length result.now ≤ length buffer.old }
+// How many bytes of standard input were read. A read that fails ends them, as the input's end does.
+pub fn standard(rt: &impl Input, buffer: &mut [u8]) -> usize
+    ensures { IsPrefixLen result buffer.new }
 {
     let mut reader = rt.reader();
     filled(&mut reader, buffer)
 }
 
 // Reads until the buffer is full, the bytes end or a read fails. The loop counts no index: a read says how far it came.
-fn filled<'a>(reader: &mut impl Read, buffer: &'a mut [u8]) -> &'a [u8]
-    ensures { length result.now ≤ length buffer.old }
+fn filled(reader: &mut impl Read, buffer: &mut [u8]) -> usize
+    ensures { IsPrefixLen result buffer.new }
 {
     let mut done = 0;
     while done < buffer.len() {
@@ -43,7 +45,7 @@ fn filled<'a>(reader: &mut impl Read, buffer: &'a mut [u8]) -> &'a [u8]
             Ok(n) => done += n,
         }
     }
-    &buffer[..done]
+    done
 }
 
 // Whether argument n is there.
@@ -51,40 +53,38 @@ pub fn is_given(rt: &impl Env, n: usize) -> bool {
     !matches!(rt.arg(n, &mut []), Err(FillError::NotPresent))
 }
 
-// The bytes of argument n, at the start of the word; none where it is missing or longer than the word.
-pub fn argument<'a>(rt: &impl Env, n: usize, word: &'a mut [u8]) -> &'a [u8]
-    ensures { length result.now ≤ length word.old }
+// How many bytes argument n has, which stand at the start of the word; 0 where it is missing or longer than the word.
+pub fn argument(rt: &impl Env, n: usize, word: &mut [u8]) -> usize
+    ensures { IsPrefixLen result word.new }
 {
-    let length = rt.arg(n, word).unwrap_or(0);
-    &word[..length]
+    rt.arg(n, word).unwrap_or(0)
 }
 
-// The file that argument n names. What fails is told as an error: the usage where the argument is missing.
-pub fn named<'a>(
+// The file that argument n names, with its name in path. What fails is told as an error: the usage where the argument is missing.
+pub fn named(
     rt: &(impl Env + Files),
     errors: &impl Print,
     n: usize,
     usage: &[u8],
-    path: &'a mut [u8],
-    buffer: &'a mut [u8],
-) -> Option<Given<'a>>
-    ensures { IfSome result (λ g. (length g.name.now ≤ length path.old) × (length g.bytes.now ≤ length buffer.old)) }
+    path: &mut [u8],
+    buffer: &mut [u8],
+) -> Option<Given>
+    ensures { IfSome result (λ g. IsPrefixLen g.name path.new × IsPrefixLen g.bytes buffer.new) }
 {
-    let length = match rt.arg(n, path) {
+    let name = match rt.arg(n, path) {
         Ok(length) => length,
         Err(error) => {
             told::fail(errors, usage, io::Error::from_raw_os_error(number(error)));
             return None;
         }
     };
-    let name = &path[..length];
-    match opened(rt, name) {
+    match opened(rt, &path[..name]) {
         Ok(mut file) => Some(Given {
             name,
             bytes: filled(&mut file, buffer),
         }),
         Err(error) => {
-            told::fail(errors, name, error);
+            told::fail(errors, &path[..name], error);
             None
         }
     }

@@ -22,5 +22,6 @@ fn answer(to: &impl Print, source: &[u8]) -> io::Result<()> {
 // A longer source is cut at 65,536 bytes, and refused with 3 as the whole would be.
 fn main(rt: HostRuntime) -> io::Result<()> {
     let mut buffer = [0u8; 65536];
-    answer(&rt, input::standard(&rt, &mut buffer))
+    let got = input::standard(&rt, &mut buffer);
+    answer(&rt, &buffer[..got])
 }

@@ -18,7 +18,8 @@ fn stepped(
     n: usize,
 ) -> io::Result<u32> {
     let mut room = [0u8; 4096];
-    let word = input::argument(rt, n, &mut room);
+    let length = input::argument(rt, n, &mut room);
+    let word = &room[..length];
     rt.write_all(b"input ")?;
     rt.write_all(word)?;
     let Some(input) = number::parse(word) else {
@@ -66,7 +67,7 @@ fn main(rt: HostRuntime) -> io::Result<()> {
     let mut buffer = [0u8; 65536];
     let usage = b"runner FILE INPUT..";
     if let Some(given) = input::named(&rt, &errors, 1, usage, &mut path, &mut buffer) {
-        opened(&rt, given.bytes)?;
+        opened(&rt, &buffer[..given.bytes])?;
     }
     Ok(())
 }
