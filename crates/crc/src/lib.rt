@@ -16,14 +16,14 @@ fn next(t: &[u32; 256], r: u32, b: u8) -> u32
     t[(x % 256) as usize] ^ (x / 256)
 }
 
-// The register after all bytes of `s`, from 32 ones.
+// The register after all bytes of `s`, from 32 ones. By places: an edit says that the first byte is not left out.
 fn over(t: &[u32; 256], s: &[u8]) -> u32
     requires { Remainders t.now }
     ensures { result ≡ register ones s.now }
 {
     let mut r: u32 = 0xFFFF_FFFF;
-    for b in s {
-        r = next(t, r, *b);
+    for i in 0..s.len() {
+        r = next(t, r, s[i]);
     }
     r
 }

@@ -18,10 +18,10 @@ done : (s : List ℕ) (r i : ℕ) → length s ≤ i → register r (drop i s) �
 unfolding register
 done s r i h = ap (register r) (drop_of_length-le s h)
 
-pub loop-b-preserved : goal.loop-b-preserved
-loop-b-preserved c = let l = c.loop-b in
-    ap (λ (x : ℕ). register x (drop (l.b-index + 1) c.args.s.now)) c.next-r.ensures ∙ sym (more c.args.s.now l.r l.b-index (omega arith)) ∙ l.invariant
+pub loop-i-preserved : goal.loop-i-preserved
+loop-i-preserved c = let l = c.loop-i in
+    ap (λ (x : ℕ). register x (drop (l.i + 1) c.args.s.now)) c.next-r.ensures ∙ sym (more c.args.s.now l.r l.i (omega arith)) ∙ l.invariant
 
 pub returns : goal.returns
-returns c = let l = c.loop-b in
-    sym (done c.args.s.now l.r l.b-index (omega arith)) ∙ l.invariant
+returns c = let l = c.loop-i in
+    sym (done c.args.s.now l.r l.i (omega arith)) ∙ l.invariant

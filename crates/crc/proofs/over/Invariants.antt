@@ -5,5 +5,5 @@ use lib.ListN.{drop}
 use Rattle.crc_law.specs.Crc.{ones, register}
 use Rattle.crc.proofs.over.Given as goal
 
-abbrev pub invariant-loop-b : goal.invariant-loop-b
-invariant-loop-b l = register l.r (drop l.b-index l.s) ≡ register ones l.s
+abbrev pub invariant-loop-i : goal.invariant-loop-i
+invariant-loop-i l = register l.r (drop l.i l.s) ≡ register ones l.s
