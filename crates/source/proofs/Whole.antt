@@ -1,22 +1,19 @@
 -- As the code goes through declarations and body: the fault that is told is the text's, and where there is none its program is stored.
 -- Assumes nothing.
-use mathlib.Core.Bool.{Bool, true, false, cond}
+use mathlib.Core.Bool.{false}
 use mathlib.Core.Path.{◌≡◌, refl, sym, ◌∙◌, ap, subst}
 use mathlib.Core.List.{List, []}
 use Prim.Native.Nat.{ℕ, ◌≤◌, min}
 use native.Mathlib.Omega.{arith}
-use mathlib.Core.Option.{Option, none, some}
-use lib.Dec.{ltb}
 use lib.ListN.{length}
 use Rattle.std.specs.Prelude.{Result, Ok, Err}
 use Rattle.refusals.specs.declared.Refusal.{Refusal}
 use Rattle.refusals.specs.Number.{number_of}
 use Rattle.meaning.specs.Expansion.{procedures_from}
-use Rattle.meaning.specs.Faults.{Fault}
 use Rattle.language.specs.Texts.{refused, Reads}
 use Rattle.grammar.specs.Meaning.{Says}
 use Rattle.stored.specs.Stored.{Stored}
-use Rattle.own_law.specs.Noted.{tell_at, tell_by}
+use Rattle.own_law.specs.Noted.{tell_by}
 use Rattle.frames_law.specs.Frames.{no_place}
 use Rattle.frames.specs.declared.Under.{Under}
 use Rattle.parts.specs.Beside.{beside}
@@ -31,22 +28,6 @@ use Rattle.told_law.proofs.Whole.{own, settled, refused-read, good-read}
 use Rattle.source.specs.Settled.{fault_in}
 use Rattle.source.specs.Area.{tree_of, Prepared}
 use Rattle.source.proofs.Lent.{area_entered}
-
--- a fault that is told by itself is told before all that come behind it
-pub told_here : (number p : ℕ) (r : Refusal ℕ) (next : Option Fault) → fault_in (Err r) ≡ tell_at no_place number p none → fault_in (Err r) ≡ tell_at no_place number p next
-told_here number p r next e = by (ltb p no_place) e
-  where
-    by : (b : Bool) → fault_in (Err r) ≡ cond b (some (record { number = number; place = p })) none → fault_in (Err r) ≡ cond b (some (record { number = number; place = p })) next
-    by true e = e
-    by false e = cc
-
--- .. and where there is none those behind it are told
-pub told_next : (number p : ℕ) (next : Option Fault) → none ≡ tell_at no_place number p none → next ≡ tell_at no_place number p next
-told_next number p next e = by (ltb p no_place) e
-  where
-    by : (b : Bool) → ◌≡◌ {A = Option Fault} none (cond b (some (record { number = number; place = p })) none) → next ≡ cond b (some (record { number = number; place = p })) next
-    by true e = cc
-    by false e = refl
 
 module _ {s t u : List ℕ} {r : declared.Read} (says : Says s (Ok tt)) (p : Prepared s t u r) {v : Under} (own_is : v ≡ own r) {y : List ℕ} {b : Read} (a : All s (beside u).names r.marks.names v 32 false false r.word start_marks u y b)
     (o : Result (Unit {0}) (Refusal ℕ)) {six nine : ℕ} (q : fault_in o ≡ tell_by no_place six b.marks.notes.seven b.marks.eight nine b.marks.notes.ten) (e₆ : six ≡ min r.marks.six b.marks.notes.six) (e₉ : nine ≡ min r.marks.nine b.marks.notes.nine) where

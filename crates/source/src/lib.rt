@@ -2,11 +2,9 @@
 #![tactic(auto)]
 
 ghost use Rattle.std.specs.Prelude.{◌≡◌, ◌≤◌, length};
-ghost use Rattle.std.proofs.Math.Option.{none};
-ghost use Rattle.own_law.specs.Noted.{tell_at, tell_by};
+ghost use Rattle.own_law.specs.Noted.{tell_by};
 ghost use Rattle.frames_law.specs.Frames.{no_place};
 ghost use Rattle.told_law.proofs.Whole.{own as ownText};
-ghost use Rattle.refusals.specs.Number.{number_of};
 ghost use Rattle.source.specs.Settled.{fault_in};
 ghost use Rattle.source.specs.Area.{tree_of};
 ghost use Rattle.source.specs.Says.{Says, ReadDone};
@@ -26,28 +24,36 @@ pub struct Program {
     pub word: u32,
 }
 
-// The refusal at its least place, unless there is none: 65,535, as `tell_at` and `no_place` of own_law/specs/Noted have it.
-fn none_at(cause: Cause, place: u16) -> Result<(), Refusal<u32>>
-    ensures { fault_in result ≡ tell_at no_place (number_of cause) place none }
+// A refusal at a place of the text.
+fn at(cause: Cause, place: u16) -> Refusal<u32>
+    ensures { result ≡ record { cause = cause; place = place } }
 {
-    if place == u16::MAX {
-        return Ok(());
-    }
-    Err(Refusal {
+    Refusal {
         cause,
         place: u32::from(place),
-    })
+    }
 }
 
-// The fault that is told, by the least place of each, 65,535 where there is none.
+// The fault that is told, by the least place of each, 65,535 where there is none. One test to each: an edit changes one of them.
 fn settle(six: u16, seven: u16, eight: u16, nine: u16, ten: u16) -> Result<(), Refusal<u32>>
     ensures { fault_in result ≡ tell_by no_place six seven eight nine ten }
 {
-    none_at(Cause::Name, six)?;
-    none_at(Cause::Kind, seven)?;
-    none_at(Cause::Jump, eight)?;
-    none_at(Cause::Size, nine)?;
-    none_at(Cause::WorstSize, ten)
+    if six < 65535 {
+        return Err(at(Cause::Name, six));
+    }
+    if seven < 65535 {
+        return Err(at(Cause::Kind, seven));
+    }
+    if eight < 65535 {
+        return Err(at(Cause::Jump, eight));
+    }
+    if nine < 65535 {
+        return Err(at(Cause::Size, nine));
+    }
+    if ten < 65535 {
+        return Err(at(Cause::WorstSize, ten));
+    }
+    Ok(())
 }
 
 // No call is open: every procedure can be called, and frames are written behind the names.

@@ -1,27 +1,31 @@
 -- `source::settle` meets its contract.
 -- Assumes nothing.
-use mathlib.Core.Path.{◌∙◌}
-use Rattle.std.proofs.lemmas.Result.{err_from_is_err_and}
+use Rattle.std.proofs.Common.{arith}
+use borrow.Author.Tests.{lt-ltb, le-ltb}
 use Rattle.own_law.specs.Noted.{tell_by}
-use Rattle.source.proofs.Whole.{told_here, told_next}
+use Rattle.frames_law.specs.Frames.{no_place}
 use Rattle.source.proofs.settle.Goals as goal
 
-pub returns-in_err-none_at : goal.returns-in_err-none_at
+pub returns-then-six-lt65535 : goal.returns-then-six-lt65535
 unfolding tell_by
-returns-in_err-none_at c = let p = err_from_is_err_and c.from_residual.result c.from_residual.ensures.1 in rw (p.1, p.2) (told_here 6 c.args.six _ _ c.in_err-none_at.ensures)
+returns-then-six-lt65535 c = simp (c.at.ensures, lt-ltb _ no_place c.if-six-lt65535.true)
 
-pub returns-in_err-none_at-2 : goal.returns-in_err-none_at-2
+pub returns-then-seven-lt65535 : goal.returns-then-seven-lt65535
 unfolding tell_by
-returns-in_err-none_at-2 c = let p = err_from_is_err_and c.from_residual-in_err-none_at-2.result c.from_residual-in_err-none_at-2.ensures.1 in rw (p.1, p.2) (told_here 7 c.args.seven _ _ c.in_err-none_at-2.ensures ∙ told_next 6 c.args.six _ c.in_ok-none_at.ensures)
+returns-then-seven-lt65535 c = simp (c.at-then-seven-lt65535.ensures, le-ltb _ no_place c.if-six-lt65535.false, lt-ltb _ no_place c.if-seven-lt65535.true)
 
-pub returns-in_err-none_at-3 : goal.returns-in_err-none_at-3
+pub returns-then-eight-lt65535 : goal.returns-then-eight-lt65535
 unfolding tell_by
-returns-in_err-none_at-3 c = let p = err_from_is_err_and c.from_residual-in_err-none_at-3.result c.from_residual-in_err-none_at-3.ensures.1 in rw (p.1, p.2) (told_here 8 c.args.eight _ _ c.in_err-none_at-3.ensures ∙ told_next 7 c.args.seven _ c.in_ok-none_at-2.ensures ∙ told_next 6 c.args.six _ c.in_ok-none_at.ensures)
+returns-then-eight-lt65535 c = simp (c.at-then-eight-lt65535.ensures, le-ltb _ no_place c.if-six-lt65535.false, le-ltb _ no_place c.if-seven-lt65535.false, lt-ltb _ no_place c.if-eight-lt65535.true)
 
-pub returns-in_err-none_at-4 : goal.returns-in_err-none_at-4
+pub returns-then-nine-lt65535 : goal.returns-then-nine-lt65535
 unfolding tell_by
-returns-in_err-none_at-4 c = let p = err_from_is_err_and c.from_residual-in_err-none_at-4.result c.from_residual-in_err-none_at-4.ensures.1 in rw (p.1, p.2) (told_here 9 c.args.nine _ _ c.in_err-none_at-4.ensures ∙ told_next 8 c.args.eight _ c.in_ok-none_at-3.ensures ∙ told_next 7 c.args.seven _ c.in_ok-none_at-2.ensures ∙ told_next 6 c.args.six _ c.in_ok-none_at.ensures)
+returns-then-nine-lt65535 c = simp (c.at-then-nine-lt65535.ensures, le-ltb _ no_place c.if-six-lt65535.false, le-ltb _ no_place c.if-seven-lt65535.false, le-ltb c.args.eight no_place (omega arith), lt-ltb _ no_place c.if-nine-lt65535.true)
+
+pub returns-then-ten-lt65535 : goal.returns-then-ten-lt65535
+unfolding tell_by
+returns-then-ten-lt65535 c = simp (c.at-then-ten-lt65535.ensures, le-ltb _ no_place c.if-six-lt65535.false, le-ltb _ no_place c.if-seven-lt65535.false, le-ltb c.args.eight no_place (omega arith), le-ltb _ no_place c.if-nine-lt65535.false, lt-ltb _ no_place c.if-ten-lt65535.true)
 
 pub returns : goal.returns
 unfolding tell_by
-returns c = c.none_at-5.ensures ∙ told_next 9 c.args.nine _ c.in_ok-none_at-4.ensures ∙ told_next 8 c.args.eight _ c.in_ok-none_at-3.ensures ∙ told_next 7 c.args.seven _ c.in_ok-none_at-2.ensures ∙ told_next 6 c.args.six _ c.in_ok-none_at.ensures
+returns c = simp (le-ltb _ no_place c.if-six-lt65535.false, le-ltb _ no_place c.if-seven-lt65535.false, le-ltb c.args.eight no_place (omega arith), le-ltb _ no_place c.if-nine-lt65535.false, le-ltb _ no_place c.if-ten-lt65535.false)
